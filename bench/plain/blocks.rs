@@ -1,7 +1,7 @@
 //! Running numbers, fed by blocks of updates: tables of the products of seven challenges each are made on the stack for a block,
 //! and an update is then one look-up and one product for each of them, and one product with its delta.
 
-use super::field::{folded, folded_once, minus, of_signed, of_wide, plus, times};
+use super::field::{folded_eighth, folded_once, folded_times, minus, of_signed, of_wide, plus, times};
 use super::streams::Update;
 
 /// The challenges of a query, the lowest level's first.
@@ -74,7 +74,7 @@ fn lazy_sum<const COUNT: usize>(tables: &[Table; MOST_TABLES], block: &[Update])
     for update in block {
         let mut weight = tables[0][entry_of(update.item, 0)];
         for group in 1..COUNT {
-            weight = folded(u128::from(weight) * u128::from(tables[group][entry_of(update.item, group)]));
+            weight = folded_times(weight, tables[group][entry_of(update.item, group)]);
         }
         sum += i128::from(folded_once(weight)) * i128::from(update.delta);
     }
@@ -144,7 +144,7 @@ fn lazy_hash_sum<const COUNT: usize>(tables: &[StepTable; MOST_TABLES], block: &
         let mut weight = tables[0][entry_of(update.item, 0)].shift;
         for group in 1..COUNT {
             let step = tables[group][entry_of(update.item, group)];
-            weight = folded(u128::from(weight) * u128::from(step.scale) + u128::from(step.shift));
+            weight = folded_eighth(u128::from(weight) * u128::from(8 * step.scale) + u128::from(8 * step.shift));
         }
         sum += i128::from(folded_once(weight)) * i128::from(update.delta);
     }

@@ -25,11 +25,22 @@ pub fn minus(a: u64, b: u64) -> u64 {
 }
 
 pub fn times(a: u64, b: u64) -> u64 {
-    reduced_once(folded(u128::from(a) * u128::from(b)))
+    reduced_once(folded_times(a, b))
 }
 
-/// A number below 2^64 with the same residue. It grows by less than 2^61 with each further factor below 2^61, so that seven
-/// residues may be multiplied so.
+/// A number below 2^64 with the residue of the product of a number and a residue. It is longer than the first factor by less than
+/// 2^61, so that seven residues may be multiplied so.
+pub fn folded_times(a: u64, b: u64) -> u64 {
+    folded_eighth(u128::from(a) * u128::from(8 * b))
+}
+
+/// The same for eight times a number, which has the bits above its lowest 61 in a word of their own: no bits of two words are to be
+/// put together.
+pub fn folded_eighth(eightfold: u128) -> u64 {
+    (eightfold >> 64) as u64 + (eightfold as u64 >> 3)
+}
+
+/// The same for any number below 2^125.
 pub fn folded(product: u128) -> u64 {
     (product as u64 & P) + (product >> 61) as u64
 }

@@ -1,6 +1,6 @@
 //! Nodes of a level as sums over the entries below them. Over all levels of a query each entry is used at most once.
 
-use super::field::{folded, folded_once, of_signed, of_wide, plus, times};
+use super::field::{folded_once, folded_times, of_signed, of_wide, plus, times};
 use super::vector::Entry;
 
 /// How many challenges a table is made of at most.
@@ -69,7 +69,7 @@ fn lazy_sum<const COUNT: usize>(tables: [&Vec<u64>; COUNT], entries: &[Entry]) -
     for entry in entries {
         let mut weight = product(tables[0], 0, entry.index);
         for group in 1..COUNT {
-            weight = folded(u128::from(weight) * u128::from(product(tables[group], group, entry.index)));
+            weight = folded_times(weight, product(tables[group], group, entry.index));
         }
         sum += i128::from(folded_once(weight)) * i128::from(entry.value);
     }

@@ -17,10 +17,11 @@ use std::os::unix::fs::MetadataExt;
 use std::process::ExitCode;
 use std::{env, io};
 
-/// Files that stand at the lowest descriptors that were closed at the start, if any of 0 to 2 was. The system gives the
-/// lowest free descriptor, so that no file of the run can become standard output or standard error; and since these are
-/// a folder that is opened to be read, reads and writes of such a stream fail. Where all three were open they take three
-/// others, and change nothing.
+/// Files that stand at the lowest descriptors that were closed at the start, if any of 0 to 2 was.
+/// The system gives the lowest free descriptor, so that no file of the run can become standard
+/// output or standard error; and since these are a folder that is opened to be read, reads and
+/// writes of such a stream fail. Where all three were open they take three others, and change
+/// nothing.
 fn stand_ins(rt: &HostRuntime) -> [Option<File>; 3] {
     [
         File::open(rt, "/").ok(),
@@ -80,7 +81,8 @@ fn lines(rt: &HostRuntime, tells: bool) -> Option<Lines> {
     }
 }
 
-/// Says that an end of the link is opened, which may wait, if it is to. That this could not be written changes nothing.
+/// Says that an end of the link is opened, which may wait, if it is to. That this could not be
+/// written changes nothing.
 fn say(rt: &HostRuntime, opening: Opening, line: &str, tells: bool) {
     if let Opening::Path { .. } = opening
         && tells
@@ -114,8 +116,8 @@ fn made(
 
 /// A source over a file to read; `None` where memory is refused.
 ///
-/// What reads through a buffer stands on the heap, and is made in a call of its own, so that the stack has the buffer
-/// no longer than that.
+/// What reads through a buffer stands on the heap, and is made in a call of its own, so that the
+/// stack has the buffer no longer than that.
 #[inline(never)]
 fn source(rt: &HostRuntime, words: &Words, opening: Opening) -> Option<Box<FileSource>> {
     let file = opened(rt, words, opening);
@@ -125,8 +127,8 @@ fn source(rt: &HostRuntime, words: &Words, opening: Opening) -> Option<Box<FileS
 /// The link, which says what it waits for.
 type Peer = ToldLink<FileLink, Lines>;
 
-/// Opens the two ends of the link, in the order of the plan: so two FIFOs can stand between the two sides. `None` where
-/// memory is refused.
+/// Opens the two ends of the link, in the order of the plan: so two FIFOs can stand between the two
+/// sides. `None` where memory is refused.
 #[inline(never)]
 fn link(rt: &HostRuntime, words: &Words, plan: &PortPlan, tells: bool) -> Option<Box<Peer>> {
     let (from, to) = match plan.link_order() {
@@ -161,8 +163,8 @@ struct RunPorts {
     peer: Box<Peer>,
 }
 
-/// Does what the words say over these ports. Words of `play` and `panel` have no use for the link, and
-/// those of `panel` none for what keeps a transcript.
+/// Does what the words say over these ports. Words of `play` and `panel` have no use for the link,
+/// and those of `panel` none for what keeps a transcript.
 fn obey_keeping<S: Source, C: Sink>(
     rt: &HostRuntime,
     words: &Words,
@@ -216,8 +218,8 @@ fn obey_over<S: Source>(
     })
 }
 
-/// Does what the words say, over the file or the made stream that is the first source. `None` where memory is refused to
-/// a port.
+/// Does what the words say, over the file or the made stream that is the first source. `None` where
+/// memory is refused to a port.
 fn obey(rt: &HostRuntime, words: &Words, tells: bool) -> Option<Status> {
     let asked = ports(words);
     let plan = sparing(rt, words, &asked);

@@ -10,7 +10,8 @@ use std::time::{Clock, Duration, Instant};
 
 /// How many updates a block has: those of a full frame.
 const BLOCK: usize = 512;
-/// How many blocks a number gets. 8 times as many updates are below 2^30, the limit of an augmented root.
+/// How many blocks a number gets. 8 times as many updates are below 2^30, the limit of an augmented
+/// root.
 const BLOCKS: u64 = 1000;
 
 /// An update that changes nothing.

@@ -45,7 +45,8 @@ impl Part {
 pub(crate) struct Line {
     pub(crate) part: Part,
     pub(crate) depth: Depth,
-    /// How many updates or records were taken in that time, or how many entries a vector has that are not 0.
+    /// How many updates or records were taken in that time, or how many entries a vector has that
+    /// are not 0.
     pub(crate) count: u64,
     /// The least time of all turns.
     pub(crate) time: Duration,

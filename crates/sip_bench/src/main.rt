@@ -1,8 +1,9 @@
 //! Times the verifier's running numbers, its reader, and the helper's vector, siblings and moments.
 //!
-//! Each word names a part and a depth, as `root-20`: a root over 2^20 items, fed by blocks of 512 updates. Without words it
-//! does nothing. A part prints a line `NAME DEPTH COUNT NANOSECONDS CHECKSUM`, which `bench/yardstick.rs`, the same in plain
-//! Rust, prints too. `docs/BENCH.md` tells how the two are compared.
+//! Each word names a part and a depth, as `root-20`: a root over 2^20 items, fed by blocks of 512
+//! updates. Without words it does nothing. A part prints a line `NAME DEPTH COUNT NANOSECONDS
+//! CHECKSUM`, which `bench/yardstick.rs`, the same in plain Rust, prints too. `docs/BENCH.md` tells
+//! how the two are compared.
 #![tactic(auto)]
 
 mod blocks;

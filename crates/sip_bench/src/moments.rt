@@ -21,7 +21,8 @@ fn to_io(_: OutOfMemory) -> io::Error {
     io::ErrorKind::OutOfMemory.into()
 }
 
-/// How many updates of 1 leave room for a moment of the degree in a claim, or a million where more do.
+/// How many updates of 1 leave room for a moment of the degree in a claim, or a million where more
+/// do.
 fn most_ones(degree: u8) -> u64
     ensures { result ≤ 1_000_000 }
 {

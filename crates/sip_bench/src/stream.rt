@@ -4,8 +4,8 @@ ghost use Rattle.std.specs.Prelude.{◌≡◌, ◌^◌, ◌<◌, ◌≤◌, nat_
 use sip_field::{Field, M61, Seat};
 use sip_vector::{CAP, Depth, Side, Update};
 
-/// The linear congruential generator modulo 2^64 of Knuth's MMIX: Knuth, The Art of Computer Programming, volume 2,
-/// section 3.3.4.
+/// The linear congruential generator modulo 2^64 of Knuth's MMIX: Knuth, The Art of Computer
+/// Programming, volume 2, section 3.3.4.
 #[derive(Drop)]
 pub(crate) struct Generator {
     state: u64,
@@ -25,7 +25,8 @@ impl Generator {
         self.state
     }
 
-    /// The next update: an item below 2^depth, and a delta from 1 to 8. They are made of different bits of one word.
+    /// The next update: an item below 2^depth, and a delta from 1 to 8. They are made of different
+    /// bits of one word.
     pub(crate) fn next_update(&mut self, depth: Depth) -> Update
         ensures item { result.item < 2 ^ depth }
         ensures delta { nat_abs result.delta ≤ 8 }

@@ -38,9 +38,9 @@ fn number_of(update: &Update) -> u64 {
         .wrapping_add(update.delta.cast_unsigned())
 }
 
-// The checksum once a block follows: three times that before, and the number of the record, for each
-// record. It is made of eight sums in turn, since a sum waits for its own last step: two of them took
-// a third of the time that is told of reading binary records.
+// The checksum once a block follows: three times that before, and the number of the record, for
+// each record. It is made of eight sums in turn, since a sum waits for its own last step: two of
+// them took a third of the time that is told of reading binary records.
 fn checksum_with(checksum: u64, block: &[Update; ROWS]) -> u64 {
     let mut sums: [u64; SUMS] = [0; SUMS];
     sums[SUMS - 1] = checksum;
@@ -84,8 +84,8 @@ pub(crate) fn bytes(alloc: Global, part: Part, depth: Depth, form: Form) -> io::
     })
 }
 
-/// Reads of the records of a made stream, by the block, as the end of a talk reads them. The stream lies in memory in this form. The
-/// least time of a block is taken.
+/// Reads of the records of a made stream, by the block, as the end of a talk reads them. The stream
+/// lies in memory in this form. The least time of a block is taken.
 pub(crate) fn read(
     clock: &impl Clock,
     alloc: Global,

@@ -1,10 +1,10 @@
 // Runs of `lookup` and of `moments` against runs of `helplook` and of `helpmom`.
 
-use crate::case::Case;
 use crate::duel::{MOST_CHALLENGES, push_reveals, sent};
 use sip_cli::{Command, read_words};
+use sip_command_tests::case::Case;
 use sip_command_tests::frames::ZERO_SEED;
-use sip_command_tests::row::{Given, Shown, words_of};
+use sip_command_tests::row::{RunInput, Shown, words_of};
 use sip_field::{M61, draw_challenges};
 use sip_vector::Depth;
 use sip_verifier::Status;
@@ -82,7 +82,7 @@ fn questions_of(alloc: Global, words: &str) -> Result<(Depth, usize, bool), Fail
 
 // A run of the asking end over these replies.
 fn ask(alloc: Global, ends: Ends, replies: &[u8]) -> Result<Shown, Fail> {
-    let asking = Given {
+    let asking = RunInput {
         words: ends.asking,
         stream: ends.stream.as_bytes(),
         seed: &ZERO_SEED,
@@ -93,7 +93,7 @@ fn ask(alloc: Global, ends: Ends, replies: &[u8]) -> Result<Shown, Fail> {
 
 // A run of the helping end that hears this.
 fn help(alloc: Global, ends: Ends, said: &[u8]) -> Result<Shown, Fail> {
-    let helping = Given {
+    let helping = RunInput {
         words: ends.helping,
         stream: &[],
         seed: &[],
@@ -151,11 +151,15 @@ fn check_ends(rt: &impl Abort, alloc: Global, rows: &[Ends]) -> Result<(), Fail>
             name: ends.asking,
             number: 10_000,
         };
-        case.ends(rt, asked.status, Status::Accepted);
-        case.ends(rt, helped.status, Status::Served);
-        case.writes(rt, asked.report.bytes(), ends.lines.as_bytes());
-        case.writes(rt, asked.keep.bytes(), &[]);
-        case.holds(rt, said.starts_with(&ends.open));
+        case.ends(asked.status, Status::Accepted)
+            .expect(rt, "a case");
+        case.ends(helped.status, Status::Served)
+            .expect(rt, "a case");
+        case.writes(asked.report.bytes(), ends.lines.as_bytes())
+            .expect(rt, "a case");
+        case.writes(asked.keep.bytes(), &[]).expect(rt, "a case");
+        case.holds(said.starts_with(&ends.open))
+            .expect(rt, "a case");
     }
     Ok(())
 }

@@ -1,9 +1,9 @@
 // A run of `verify` against a run of `help`.
 
-use crate::case::Case;
 use sip_cli::{Command, read_words};
+use sip_command_tests::case::Case;
 use sip_command_tests::frames::*;
-use sip_command_tests::row::{Given, Shown, words_of};
+use sip_command_tests::row::{RunInput, Shown, words_of};
 use sip_field::{Field, M61, draw_challenges};
 use sip_ports::TalkEvent;
 use sip_verifier::{Status, Task};
@@ -46,7 +46,7 @@ fn task_of(alloc: Global, words: &str) -> Result<Task, Fail> {
 
 // A run of `help` that hears this.
 fn help(alloc: Global, said: &[u8]) -> Result<Shown, Fail> {
-    let helping = Given {
+    let helping = RunInput {
         words: "help from to",
         stream: &[],
         seed: &[],
@@ -69,7 +69,7 @@ pub fn push_reveals(said: &mut Vec<u8>, challenges: &[M61]) -> Result<(), Fail> 
 // that are to be revealed, which the seed of zeros gives; the next run has its replies to that.
 pub fn duel(alloc: Global, words: &str, stream: &[u8]) -> Result<Shown, Fail> {
     let task = task_of(alloc, words)?;
-    let asking = Given {
+    let asking = RunInput {
         words,
         stream,
         seed: &ZERO_SEED,
@@ -84,7 +84,7 @@ pub fn duel(alloc: Global, words: &str, stream: &[u8]) -> Result<Shown, Fail> {
         let mut said = sent(alloc, shown.peer.talk())?;
         push_reveals(&mut said, block)?;
         let replies = sent(alloc, help(alloc, &said)?.peer.talk())?;
-        let answered = Given {
+        let answered = RunInput {
             words,
             stream,
             seed: &ZERO_SEED,
@@ -107,16 +107,16 @@ pub fn check_duel(rt: &impl Abort, alloc: Global, talk: Talk) -> Result<Shown, F
         name: words,
         number: 10_000,
     };
-    case.ends(rt, shown.status, Status::Accepted);
-    case.writes(rt, shown.report.bytes(), lines.as_bytes());
+    case.ends(shown.status, Status::Accepted)
+        .expect(rt, "a case");
+    case.writes(shown.report.bytes(), lines.as_bytes())
+        .expect(rt, "a case");
     let events = shown.peer.talk();
     let helped = help(alloc, &sent(alloc, events)?)?;
-    case.ends(rt, helped.status, Status::Served);
-    case.writes(
-        rt,
-        &sent(alloc, helped.peer.talk())?,
-        &heard(alloc, events)?,
-    );
+    case.ends(helped.status, Status::Served)
+        .expect(rt, "a case");
+    case.writes(&sent(alloc, helped.peer.talk())?, &heard(alloc, events)?)
+        .expect(rt, "a case");
     Ok(shown)
 }
 

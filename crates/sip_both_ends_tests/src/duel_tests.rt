@@ -1,7 +1,7 @@
 // Sub-vectors asked by `verify` of our own helper.
 
-use crate::case::Case;
 use crate::duel::{Talk, check_duel, check_duels, heard, sent};
+use sip_command_tests::case::Case;
 use sip_command_tests::ones::rows_of_ones;
 use std::alloc::Global;
 use std::process::Abort;
@@ -98,8 +98,10 @@ fn check_weighed(rt: &impl Abort, alloc: Global, rows: &[Weighed]) -> Result<(),
             name: row.talk.0,
             number: 10_000,
         };
-        case.holds(rt, weight(&sent(alloc, events)?) == row.sent);
-        case.holds(rt, weight(&heard(alloc, events)?) == row.heard);
+        case.holds(weight(&sent(alloc, events)?) == row.sent)
+            .expect(rt, "a case");
+        case.holds(weight(&heard(alloc, events)?) == row.heard)
+            .expect(rt, "a case");
     }
     Ok(())
 }

@@ -1,7 +1,7 @@
 // Heavy hitters and shares asked by `verify` of our own helper.
 
-use crate::case::Case;
 use crate::duel::{Talk, check_duels, duel};
+use sip_command_tests::case::Case;
 use sip_verifier::Status;
 use sip_wire::Reason;
 use std::test::Fail;
@@ -104,7 +104,8 @@ fn a_negative_entry_is_refused(rt: HostRuntime) -> Result<(), Fail> {
         reason: Reason::Refused(3),
     };
     let lines = "sub:0:1 0:-2 1:5\nf2:0 29\nrange:0:0:1 3\nrejected query 4 round 0 Refused(3)\n";
-    case.ends(&rt, shown.status, rejected);
-    case.writes(&rt, shown.report.bytes(), lines.as_bytes());
+    case.ends(shown.status, rejected).expect(&rt, "a case");
+    case.writes(shown.report.bytes(), lines.as_bytes())
+        .expect(&rt, "a case");
     Ok(())
 }

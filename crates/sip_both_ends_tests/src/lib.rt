@@ -6,8 +6,6 @@
 #[cfg(test)]
 mod both_ends_tests;
 #[cfg(test)]
-mod case;
-#[cfg(test)]
 mod duel;
 #[cfg(test)]
 mod duel_tests;

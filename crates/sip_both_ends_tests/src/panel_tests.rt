@@ -1,7 +1,7 @@
 // Runs against several helpers in the program.
 
-use crate::case::Case;
 use sip_cli::panel_words;
+use sip_command_tests::case::Case;
 use sip_command_tests::frames::ZERO_SEED;
 use sip_command_tests::play::BOTH_SIDES;
 use sip_command_tests::row::words_of;
@@ -85,8 +85,9 @@ fn check_run(rt: &impl Abort, alloc: Global, Run(name, status, lines): Run) -> R
     let mut report = MemorySink::new(alloc, 10_000, Vec::new(alloc));
     let ended = panel_words(alloc, &words, &mut first, &mut second, &mut report);
     let case = Case { name, number: 0 };
-    case.holds(rt, ended == status);
-    case.writes(rt, report.bytes(), lines.as_bytes());
+    case.holds(ended == status).expect(rt, "a case");
+    case.writes(report.bytes(), lines.as_bytes())
+        .expect(rt, "a case");
     Ok(())
 }
 

@@ -1,6 +1,6 @@
 // Runs against the helpers in the program.
 
-use crate::case::Case;
+use sip_command_tests::case::Case;
 use sip_command_tests::play::run_play;
 use sip_stream::Why;
 use sip_verifier::Status;
@@ -114,8 +114,9 @@ fn check_runs(rt: &impl Abort, alloc: Global, runs: &[Run]) -> Result<(), Fail> 
     for Run(name, status, lines) in runs {
         let shown = run_play(alloc, name)?;
         let case = Case { name, number: 0 };
-        case.holds(rt, shown.ended == *status);
-        case.writes(rt, shown.report.bytes(), lines.as_bytes());
+        case.holds(shown.ended == *status).expect(rt, "a case");
+        case.writes(shown.report.bytes(), lines.as_bytes())
+            .expect(rt, "a case");
     }
     Ok(())
 }

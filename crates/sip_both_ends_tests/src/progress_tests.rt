@@ -1,11 +1,11 @@
 // What a run says on the way.
 ghost use Rattle.std.specs.Prelude.{◌≤◌};
 
-use crate::case::Case;
 use crate::duel::{duel, heard, sent};
 use sip_cli::{ToldLink, ToldSource, exit_code, run};
+use sip_command_tests::case::Case;
 use sip_command_tests::frames::*;
-use sip_command_tests::row::{At, FIRST_GIVEN, Failing, Given, Shown, link, source, words_of};
+use sip_command_tests::row::{At, FIRST_GIVEN, Failing, RunInput, Shown, link, source, words_of};
 use sip_ports::{Link, MemoryLink, MemorySink, MemorySource, PortStop, Source, write_whole};
 use sip_verifier::Status;
 use std::alloc::Global;
@@ -136,8 +136,10 @@ fn check_moved(rt: &impl Abort, alloc: Global, rows: &[Moved], skips: bool) -> R
             name,
             number: mebibytes as u64,
         };
-        case.holds(rt, move_all(&mut told, mebibytes, &mut buffer, skips));
-        case.writes(rt, said(told.lines()), want.as_bytes());
+        case.holds(move_all(&mut told, mebibytes, &mut buffer, skips))
+            .expect(rt, "a case");
+        case.writes(said(told.lines()), want.as_bytes())
+            .expect(rt, "a case");
     }
     Ok(())
 }
@@ -162,7 +164,7 @@ struct Told {
 // Runs it over ports that move at most a chunk in a call, and tell. One call of a port fails, and
 // the calls of these numbers for the lines.
 fn run_told(
-    given: &Given,
+    given: &RunInput,
     alloc: Global,
     chunk: usize,
     failing: Option<Failing>,
@@ -205,18 +207,22 @@ struct Lines<'a> {
 
 // Nothing differs between a run over ports that tell and one over ports that don't.
 fn check_same(rt: &impl Abort, case: Case, told: &Told, plain: &Shown) {
-    case.ends(rt, told.status, plain.status);
-    case.holds(rt, exit_code(&told.status) == exit_code(&plain.status));
-    case.writes(rt, told.report.bytes(), plain.report.bytes());
-    case.writes(rt, told.keep.bytes(), plain.keep.bytes());
-    case.says(rt, told.peer.link().talk(), plain.peer.talk());
+    case.ends(told.status, plain.status).expect(rt, "a case");
+    case.holds(exit_code(&told.status) == exit_code(&plain.status))
+        .expect(rt, "a case");
+    case.writes(told.report.bytes(), plain.report.bytes())
+        .expect(rt, "a case");
+    case.writes(told.keep.bytes(), plain.keep.bytes())
+        .expect(rt, "a case");
+    case.says(told.peer.link().talk(), plain.peer.talk())
+        .expect(rt, "a case");
 }
 
 // Runs it over both: nothing differs, and these are the lines.
 fn check_lines(
     rt: &impl Abort,
     alloc: Global,
-    given: &Given,
+    given: &RunInput,
     chunk: usize,
     fails: &[u64],
     lines: Lines,
@@ -230,12 +236,14 @@ fn check_lines(
         number: chunk as u64,
     };
     check_same(rt, case, &told, &plain);
-    case.writes(rt, said(told.first.lines()), lines.stream.as_bytes());
-    case.writes(rt, said(told.peer.lines()), lines.talk.as_bytes());
+    case.writes(said(told.first.lines()), lines.stream.as_bytes())
+        .expect(rt, "a case");
+    case.writes(said(told.peer.lines()), lines.talk.as_bytes())
+        .expect(rt, "a case");
     Ok(())
 }
 
-fn check_cuts(rt: &impl Abort, alloc: Global, given: &Given, lines: Lines) -> Result<(), Fail> {
+fn check_cuts(rt: &impl Abort, alloc: Global, given: &RunInput, lines: Lines) -> Result<(), Fail> {
     check_lines(rt, alloc, given, 1, &[], lines)?;
     check_lines(rt, alloc, given, 10_000, &[], lines)
 }
@@ -272,9 +280,9 @@ const TALKS: &[(&str, &str)] = &[
 
 // A run that is rejected in its last round waits for no more; one whose seed is too short reads no
 // stream; a copy has no talk.
-const OTHERS: &[(Given<'static>, Lines<'static>)] = &[
+const OTHERS: &[(RunInput<'static>, Lines<'static>)] = &[
     (
-        Given {
+        RunInput {
             replies: &[&ENTRY_2, &SIBLINGS_3_1, &PART_OF_NO_SIBLINGS],
             ..FIRST_GIVEN
         },
@@ -285,7 +293,7 @@ const OTHERS: &[(Given<'static>, Lines<'static>)] = &[
         },
     ),
     (
-        Given {
+        RunInput {
             seed: &SHORT_SEED,
             ..FIRST_GIVEN
         },
@@ -295,7 +303,7 @@ const OTHERS: &[(Given<'static>, Lines<'static>)] = &[
         },
     ),
     (
-        Given {
+        RunInput {
             words: "widen text:s 2",
             stream: &THREE_LINES,
             seed: &[],
@@ -323,7 +331,7 @@ fn check_talk(rt: &impl Abort, alloc: Global, words: &str, talk: &str) -> Result
         heard(alloc, whole.peer.talk())?,
         sent(alloc, whole.peer.talk())?,
     );
-    let asking = Given {
+    let asking = RunInput {
         words,
         stream: &THREE_LINES,
         seed: &ZERO_SEED,
@@ -339,7 +347,7 @@ fn check_talk(rt: &impl Abort, alloc: Global, words: &str, talk: &str) -> Result
         talk: talk.split_once('\n').unwrap_or(("", "")).1,
     };
     check_lines(rt, alloc, &asking, 10_000, &[1], lost)?;
-    let helping = Given {
+    let helping = RunInput {
         words: "help from to",
         stream: &[],
         seed: &[],
@@ -361,7 +369,7 @@ fn a_run_that_tells_its_progress_is_the_same(rt: HostRuntime) -> Result<(), Fail
 }
 
 // Each of the first calls of a port fails once, in single bytes: nothing differs either.
-fn check_failing(rt: &impl Abort, alloc: Global, given: &Given, at: At) -> Result<(), Fail> {
+fn check_failing(rt: &impl Abort, alloc: Global, given: &RunInput, at: At) -> Result<(), Fail> {
     for number in 1..60 {
         let failing = Some(Failing { at, number });
         let plain = given.run(alloc, 1, failing)?;
@@ -436,8 +444,9 @@ fn lookups_and_moments_are_told_by_their_number(rt: HostRuntime) -> Result<(), F
             moved = moved && write_whole(&mut told, frame).is_ok() && told.recv(&mut [0]).is_ok();
         }
         let case = Case { name, number: 0 };
-        case.holds(&rt, moved);
-        case.writes(&rt, said(told.lines()), want.as_bytes());
+        case.holds(moved).expect(&rt, "a case");
+        case.writes(said(told.lines()), want.as_bytes())
+            .expect(&rt, "a case");
     }
     Ok(())
 }

@@ -1,10 +1,10 @@
 // The transcript that a run of `verify` keeps.
 ghost use Rattle.std.specs.Prelude.{◌≤◌};
 
-use crate::case::Case;
 use crate::duel::{duel, heard};
+use sip_command_tests::case::Case;
 use sip_command_tests::frames::*;
-use sip_command_tests::row::{At, FIRST_GIVEN, Failing, Given, bytes_of};
+use sip_command_tests::row::{At, FIRST_GIVEN, Failing, RunInput, bytes_of};
 use sip_stream::Why;
 use sip_verifier::{Port, Status};
 use sip_wire::Reason;
@@ -25,7 +25,7 @@ const HEAD: [u8; 35] = [
 #[derive(Clone, Copy)]
 struct Kept<'a> {
     name: &'a str,
-    given: Given<'a>,
+    given: RunInput<'a>,
     status: Status,
     kept: &'a [&'a [u8]],
 }
@@ -39,8 +39,9 @@ impl Kept<'_> {
             name: self.name,
             number: chunk as u64,
         };
-        case.ends(rt, shown.status, self.status);
-        case.writes(rt, shown.keep.bytes(), &bytes_of(alloc, self.kept)?);
+        case.ends(shown.status, self.status).expect(rt, "a case");
+        case.writes(shown.keep.bytes(), &bytes_of(alloc, self.kept)?)
+            .expect(rt, "a case");
         Ok(())
     }
 }
@@ -66,7 +67,7 @@ const KEPT: &[Kept<'static>] = &[
     },
     Kept {
         name: "leaf 0 is not 4",
-        given: Given {
+        given: RunInput {
             replies: &[&ENTRY_2, &SIBLINGS_4_1, &NO_SIBLINGS],
             ..FIRST_GIVEN
         },
@@ -79,7 +80,7 @@ const KEPT: &[Kept<'static>] = &[
     },
     Kept {
         name: "two bytes of reply 1 come",
-        given: Given {
+        given: RunInput {
             replies: &[&ENTRY_2, &SIBLINGS_3_1, &PART_OF_NO_SIBLINGS],
             ..FIRST_GIVEN
         },
@@ -92,7 +93,7 @@ const KEPT: &[Kept<'static>] = &[
     },
     Kept {
         name: "a claim may not stand here",
-        given: Given {
+        given: RunInput {
             replies: &[&CLAIM_HEADER, &ZEROS],
             ..FIRST_GIVEN
         },
@@ -105,7 +106,7 @@ const KEPT: &[Kept<'static>] = &[
     },
     Kept {
         name: "entries fall",
-        given: Given {
+        given: RunInput {
             replies: &[&ENTRIES_2_1, &SIBLINGS_3_1],
             ..FIRST_GIVEN
         },
@@ -118,7 +119,7 @@ const KEPT: &[Kept<'static>] = &[
     },
     Kept {
         name: "delta 0 is none",
-        given: Given {
+        given: RunInput {
             stream: &DELTA_0,
             ..FIRST_GIVEN
         },
@@ -130,7 +131,7 @@ const KEPT: &[Kept<'static>] = &[
     },
     Kept {
         name: "31 bytes are no seed",
-        given: Given {
+        given: RunInput {
             seed: &SHORT_SEED,
             ..FIRST_GIVEN
         },
@@ -149,7 +150,7 @@ fn what_was_heard_is_kept_behind_the_head(rt: HostRuntime) -> Result<(), Fail> {
 fn check_failing(
     rt: &impl Abort,
     alloc: Global,
-    given: &Given,
+    given: &RunInput,
     number: u64,
     whole: &[u8],
     lines: &[u8],
@@ -160,12 +161,15 @@ fn check_failing(
         name: "the record fails",
         number,
     };
-    case.ends(rt, shown.status, Status::WriteFault { port: Port::Keep });
+    case.ends(shown.status, Status::WriteFault { port: Port::Keep })
+        .expect(rt, "a case");
     let (kept, report) = (shown.keep.bytes(), shown.report.bytes());
-    case.holds(rt, whole.starts_with(kept));
-    case.holds(rt, kept.len() as u64 == number.wrapping_sub(1));
-    case.holds(rt, lines.starts_with(report));
-    case.holds(rt, report.is_empty() || report.ends_with(b"\n"));
+    case.holds(whole.starts_with(kept)).expect(rt, "a case");
+    case.holds(kept.len() as u64 == number.wrapping_sub(1))
+        .expect(rt, "a case");
+    case.holds(lines.starts_with(report)).expect(rt, "a case");
+    case.holds(report.is_empty() || report.ends_with(b"\n"))
+        .expect(rt, "a case");
     Ok(())
 }
 
@@ -177,7 +181,7 @@ fn each_write_of_the_record_fails_once(rt: HostRuntime) -> Result<(), Fail> {
     let lines = b"sub:1:2 2:5\nf2:0 35\nheavy:0:4 2:5\nrange:0:1:3 6\n";
     let whole = duel(alloc, words, &THREE_LINES)?;
     let replies = heard(alloc, whole.peer.talk())?;
-    let given = Given {
+    let given = RunInput {
         words,
         stream: &THREE_LINES,
         seed: &ZERO_SEED,

@@ -1,13 +1,12 @@
 //! What was said on a link, part by part.
+
+use sip_field::OutOfMemory;
 use sip_ports::TalkEvent;
 use std::alloc::Global;
-use std::process::Abort;
 
-// These bytes, one part after another, as events: those that were sent, and those received.
-//
-// Here as in each test want of memory ends the process. Every `?` is a way out at which all that is
-// alive is let go, and each of those is proved.
-pub(crate) fn events(rt: &impl Abort, alloc: Global, parts: &[(bool, &[u8])]) -> Vec<TalkEvent> {
+/// These bytes, one part after another, as events: those that were sent, and those received. It
+/// takes memory for each.
+pub fn events(alloc: Global, parts: &[(bool, &[u8])]) -> Result<Vec<TalkEvent>, OutOfMemory> {
     let mut events = Vec::new(alloc);
     for (sent, bytes) in parts {
         for byte in *bytes {
@@ -16,8 +15,19 @@ pub(crate) fn events(rt: &impl Abort, alloc: Global, parts: &[(bool, &[u8])]) ->
             } else {
                 TalkEvent::In(*byte)
             };
-            events.push(event).expect(rt, "memory");
+            events.push(event)?;
         }
     }
-    events
+    Ok(events)
+}
+
+/// The bytes that were sent. It takes memory for each.
+pub fn sent_in(alloc: Global, talk: &[TalkEvent]) -> Result<Vec<u8>, OutOfMemory> {
+    let mut sent = Vec::new(alloc);
+    for event in talk {
+        if let TalkEvent::Out(byte) = event {
+            sent.push(*byte)?;
+        }
+    }
+    Ok(sent)
 }

@@ -283,7 +283,7 @@ fn check_row(rt: &impl Abort, alloc: Global, number: usize, row: &ListRow) -> Re
         talked.said == row.said,
         places.as_slice() == row.places,
         talked.learnt.as_slice() == row.learnt,
-        talked.link.talk() == events(rt, alloc, row.talk).as_slice(),
+        talked.link.talk() == events(alloc, row.talk).expect(rt, "memory").as_slice(),
         talked.keep.bytes() == row.kept.concat(alloc).expect(rt, "memory").as_slice(),
     ];
     expect(rt, number, &facts);

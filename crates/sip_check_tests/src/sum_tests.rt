@@ -255,7 +255,7 @@ fn check_row(rt: &impl Abort, alloc: Global, number: usize, row: &SumRow) -> Res
     let (said, link, keep) = asked_of(alloc, &incoming, 9)?;
     let facts = [
         said == row.said,
-        link.talk() == events(rt, alloc, row.talk).as_slice(),
+        link.talk() == events(alloc, row.talk).expect(rt, "memory").as_slice(),
         keep.bytes() == row.kept.concat(alloc).expect(rt, "memory").as_slice(),
     ];
     expect(rt, number, &facts);

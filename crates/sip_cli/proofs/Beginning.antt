@@ -16,7 +16,8 @@ use Rattle.sip_cli.specs.declared.shape.Shape.TheVariants.{Name}
 use Rattle.sip_cli.specs.declared.stream.Stream.TheVariants as stream
 use Rattle.sip_cli.specs.declared.verb.Verb.{Verb}
 use Rattle.sip_cli.specs.declared.verb.Verb.TheVariants.{Verify, Help, Audit, Show, Convert, Gen, Lines, Widen, Play, Lookup, HelpLook, Moments, HelpMoments, Panel}
-use Rattle.sip_cli.specs.Shapes.{IsOf, IsDepth, moment_word}
+use Rattle.sip_moments.specs.Manner.{moment_word}
+use Rattle.sip_cli.specs.Shapes.{IsOf, IsDepth}
 use Rattle.sip_cli.specs.Verbs.{verb_word, shapes, depth_at, least_asked, most_asked}
 use Rattle.sip_cli.proofs.HelperWords.{count_named}
 use Rattle.sip_cli.specs.Words.{word, AsksOf, HasSeats, IsCommandOf, BeginCommand, IsRefusedAt}

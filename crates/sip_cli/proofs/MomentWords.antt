@@ -5,7 +5,8 @@ use Rattle.sip_vector.specs.declared.update.Side.{Side}
 use Rattle.sip_vector.specs.declared.update.Side.TheVariants.{First, Second}
 use Rattle.sip_vector.specs.Limits.{most_depth}
 use Rattle.sip_moments.specs.declared.moment.Moment.{Moment}
-use Rattle.sip_cli.specs.Shapes.{AsksMoment, moment_word}
+use Rattle.sip_moments.specs.Manner.{moment_word}
+use Rattle.sip_cli.specs.Shapes.{AsksMoment}
 
 -- the moment of a side and a degree
 abbrev pub moment_of : Side → ℕ → Moment

@@ -1,24 +1,28 @@
 -- The line of advice behind the line of a status.
-use Rattle.std.specs.Prelude.{◌≡◌, ◌≢◌, ℕ, ◌+◌, ◌<◌, ◌⊎◌, List, [], ◌∷◌, length, slice_index_or, Option, Some, None, nat_lt, if◌then◌else◌, Result}
+use Rattle.std.specs.Prelude.{◌≡◌, ◌≢◌, ℕ, ◌+◌, ◌<◌, ◌⊎◌, List, [], ◌∷◌, length, slice_index_or}
+use Rattle.std.specs.Prelude.{Option, Some, None, nat_lt, if◌then◌else◌, Result}
 use Rattle.sip_ports.specs.declared.port.TalkEvent.{TalkEvent}
 use Rattle.sip_ports.specs.Ports.{SendsWhole}
 use Rattle.sip_cli.specs.declared.hint_text.TheConstants as hints
-use Rattle.sip_cli.specs.declared.place.Place.{Place}
-use Rattle.sip_cli.specs.declared.place.Place.TheVariants as place
+use Rattle.sip_cli.specs.declared.place.Role.{Role}
+use Rattle.sip_cli.specs.declared.place.Role.TheVariants as place
 use Rattle.sip_cli.specs.declared.stream.Stream.TheVariants.{File}
 use Rattle.sip_cli.specs.declared.verb.Verb.{Verb}
-use Rattle.sip_cli.specs.declared.verb.Verb.TheVariants.{Verify, Help, Audit, Show, Convert, Gen, Lines, Widen, Play, Lookup, HelpLook, Moments, HelpMoments, Panel}
+use Rattle.sip_cli.specs.declared.verb.Verb.TheVariants.{Verify, Help, Audit, Show, Convert, Gen}
+use Rattle.sip_cli.specs.declared.verb.Verb.TheVariants.{Lines, Widen, Play, Lookup, HelpLook}
+use Rattle.sip_cli.specs.declared.verb.Verb.TheVariants.{Moments, HelpMoments, Panel}
 use Rattle.sip_cli.specs.Shapes.{IsStreamWord}
 use Rattle.sip_cli.specs.Verbs.{verb_word, most_asked}
 use Rattle.sip_cli.specs.Words.{word}
 use Rattle.sip_stream.specs.declared.why.Why.{Why}
-use Rattle.sip_stream.specs.declared.why.Why.TheVariants.{Truncated, BadLine, BadSide, BadItem, ZeroDelta, TooHeavy}
+use Rattle.sip_stream.specs.declared.why.Why.TheVariants.{Truncated, BadLine, BadSide, BadItem}
+use Rattle.sip_stream.specs.declared.why.Why.TheVariants.{ZeroDelta, TooHeavy}
 use Rattle.sip_verifier.specs.declared.status.Port.TheVariants as ports
 use Rattle.sip_verifier.specs.declared.status.Status.{Status}
 use Rattle.sip_verifier.specs.declared.status.Status.TheVariants as statuses
 
 -- what stands at the words of a verb, from the verb on and before what it asks
-abbrev pub places : Verb → List Place
+abbrev pub places : Verb → List Role
 places Verify = place.Verb ∷ place.Stream ∷ place.Seed ∷ place.From ∷ place.To ∷ place.Record
     ∷ place.Depth ∷ []
 places Help = place.Verb ∷ place.From ∷ place.To ∷ []
@@ -37,7 +41,7 @@ places HelpMoments = place.Verb ∷ place.From ∷ place.To ∷ []
 places Panel = place.Verb ∷ place.Stream ∷ place.Seed ∷ place.Helpers ∷ place.Depth ∷ []
 
 -- what stands behind these words, where the verb asks something
-abbrev pub asked_by : Verb → Place
+abbrev pub asked_by : Verb → Role
 asked_by Lookup = place.Lookup
 asked_by Moments = place.Moment
 asked_by Panel = place.Shared
@@ -48,21 +52,21 @@ abbrev pub behind_asked : Verb → ℕ
 behind_asked verb = length (places verb) + most_asked verb
 
 -- what stands at word n of a verb
-abbrev pub place_at : Verb → ℕ → Place
+abbrev pub place_at : Verb → ℕ → Role
 place_at verb n =
     slice_index_or (places verb) n
     (if nat_lt n (behind_asked verb) then asked_by verb else place.End)
 
 -- what stands at word n of words that begin like these: where they begin with no verb, a verb is
 -- wanted
-abbrev pub StandsAt : List (List ℕ) → ℕ → Place → Type 0
+abbrev pub StandsAt : List (List ℕ) → ℕ → Role → Type 0
 StandsAt words n is =
     ((verb : Verb) × (0 < length words) × (word words 0 ≡ verb_word verb)
     × (is ≡ place_at verb n))
     ⊎ (((verb : Verb) → 0 < length words → word words 0 ≢ verb_word verb) × (is ≡ place.Verb))
 
 -- what may stand there
-abbrev pub place_hint : Place → List ℕ
+abbrev pub place_hint : Role → List ℕ
 place_hint place.Verb = hints.VERB.now
 place_hint place.Stream = hints.STREAM.now
 place_hint place.Stored = hints.STORED.now
@@ -127,7 +131,7 @@ status_hint _ = None
 -- the line of advice for a status that these words came to is this
 abbrev pub IsHint : List (List ℕ) → Status → List ℕ → Type 0
 IsHint words (statuses.Usage n) text =
-    (is : Place) × StandsAt words n is × (text ≡ place_hint is)
+    (is : Role) × StandsAt words n is × (text ≡ place_hint is)
 IsHint words (statuses.BadStream at why) text =
     (LooksLikeText words at why × (text ≡ hints.NAMED.now))
     ⊎ ((LooksLikeText words at why → ⊥) × (text ≡ why_hint why))

@@ -1,8 +1,14 @@
 -- The texts that words ask for in place of a command, and what writing one promises.
 use Rattle.std.specs.Prelude.{◌≡◌, ◌⊎◌, ℕ, ◌<◌, List, [], ◌∷◌, length, take, codes, Option}
-use Rattle.sip_cli.specs.declared.page_text.TheConstants.{AUDIT_PART, CONVERT_PART, GEN_PART, HELP_PART, HELPLOOK_PART, HELPMOM_PART, LINES_PART, LOOKUP_PART, MOMENTS_PART, PANEL_PART, PLAY_PART, SHOW_PART, VERIFY_PART, WIDEN_PART}
+use Rattle.sip_cli.specs.declared.page_text.TheConstants.{AUDIT_PART, CONVERT_PART, GEN_PART}
+use Rattle.sip_cli.specs.declared.page_text.TheConstants.{HELP_PART, HELPLOOK_PART, HELPMOM_PART}
+use Rattle.sip_cli.specs.declared.page_text.TheConstants.{LINES_PART, LOOKUP_PART, MOMENTS_PART}
+use Rattle.sip_cli.specs.declared.page_text.TheConstants.{PANEL_PART, PLAY_PART, SHOW_PART}
+use Rattle.sip_cli.specs.declared.page_text.TheConstants.{VERIFY_PART, WIDEN_PART}
 use Rattle.sip_cli.specs.declared.verb.Verb.{Verb}
-use Rattle.sip_cli.specs.declared.verb.Verb.TheVariants.{Verify, Help, Audit, Show, Convert, Gen, Lines, Widen, Play, Lookup, HelpLook, Moments, HelpMoments, Panel}
+use Rattle.sip_cli.specs.declared.verb.Verb.TheVariants.{Verify, Help, Audit, Show, Convert, Gen}
+use Rattle.sip_cli.specs.declared.verb.Verb.TheVariants.{Lines, Widen, Play, Lookup, HelpLook}
+use Rattle.sip_cli.specs.declared.verb.Verb.TheVariants.{Moments, HelpMoments, Panel}
 use Rattle.sip_cli.specs.Verbs.{verb_word}
 use Rattle.sip_ports.specs.declared.port.TalkEvent.{TalkEvent}
 use Rattle.sip_ports.specs.Ports.{GoesOn, outs}

@@ -1,7 +1,7 @@
 -- What `panel` promises over the links to its own helpers, which it makes for the run.
 --
--- It makes all promises of a panel. The links count no fault, and no record of the talks is kept, so
--- no run ends by a fault of either.
+-- It makes all promises of a panel. The links count no fault, and no record of the talks is kept,
+-- so no run ends by a fault of either.
 use Rattle.std.specs.Prelude.{◌≢◌, ℕ, List, [], replicate}
 use Rattle.sip_ports.specs.declared.port.TalkEvent.{TalkEvent}
 use Rattle.sip_session.specs.PanelClause.{PanelRunClause}

@@ -1,5 +1,6 @@
 -- The files and made streams that a command opens.
-use Rattle.std.specs.Prelude.{◌≡◌, ◌≢◌, ℕ, ◌^◌, ◌<◌, ◌≤◌, ◌⊎◌, Option, None, List, ◌++◌, codes, decimal, drop, length}
+use Rattle.std.specs.Prelude.{◌≡◌, ◌≢◌, ℕ, ◌^◌, ◌<◌, ◌≤◌, ◌⊎◌, Option, None, List, ◌++◌, codes}
+use Rattle.std.specs.Prelude.{decimal, drop, length}
 use Rattle.std.specs.List.{slice_get}
 use Rattle.std.specs.Option.{option_map}
 use Rattle.sip_cli.specs.declared.command.Command.{Command}

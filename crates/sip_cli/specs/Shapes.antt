@@ -1,5 +1,6 @@
 -- What one word of a command may be.
-use Rattle.std.specs.Prelude.{◌≡◌, ◌≢◌, ◌==◌, ℕ, ◌^◌, ◌<◌, ◌≤◌, false, IsTrue, nat_eq, List, [], ◌∷◌, ◌++◌, codes, decimal, length, map}
+use Rattle.std.specs.Prelude.{◌≡◌, ◌≢◌, ◌==◌, ℕ, ◌^◌, ◌<◌, ◌≤◌, false, IsTrue, nat_eq, List, []}
+use Rattle.std.specs.Prelude.{◌∷◌, ◌++◌, codes, decimal, length, map}
 use Rattle.std.specs.List.{slice_split, starts_with}
 use Rattle.sip_stream.specs.declared.form.Form.{Form}
 use Rattle.sip_stream.specs.declared.form.Form.TheVariants as forms
@@ -9,12 +10,13 @@ use Rattle.sip_lookup.specs.declared.lookup.Lookup.{Lookup}
 use Rattle.sip_lookup.specs.Lookups.{CanLook}
 use Rattle.sip_lookup.specs.Reports.{look_word}
 use Rattle.sip_moments.specs.declared.moment.Moment.{Moment}
+use Rattle.sip_moments.specs.Manner.{moment_word}
 use Rattle.sip_moments.specs.Moments.{IsDegree}
 use Rattle.sip_vector.specs.declared.query.Query.{Query}
 use Rattle.sip_vector.specs.Answers.{Fits}
 use Rattle.sip_vector.specs.Built.{is_built}
 use Rattle.sip_vector.specs.Limits.{most_depth}
-use Rattle.sip_verifier.specs.Reports.{parameter, query_word, side_parameter}
+use Rattle.sip_verifier.specs.Reports.{query_word}
 use Rattle.sip_wire.specs.Table.{most_queries}
 use Rattle.sip_cli.specs.declared.helper_name.HelperName.{HelperName}
 use Rattle.sip_cli.specs.declared.helper_name.HelperName.TheVariants.{Honest, Skewed, Mute}
@@ -94,10 +96,6 @@ Asks depth query word = IsTrue (is_built query) × Fits depth query × (word ≡
 -- the word asks this lookup, which is at an item of the stream
 abbrev pub AsksLook : ℕ → Lookup → List ℕ → Type 0
 AsksLook depth lookup word = CanLook depth lookup × (word ≡ look_word lookup)
-
--- the word that asks a moment, with which its line begins
-abbrev pub moment_word : Moment → List ℕ
-moment_word m = codes "moment" ++ side_parameter m.side ++ parameter m.degree
 
 -- the word asks this moment, whose degree is one of those that are checked, whatever the depth
 abbrev pub AsksMoment : ℕ → Moment → List ℕ → Type 0

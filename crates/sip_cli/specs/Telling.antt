@@ -1,5 +1,6 @@
 -- What a run says on the way.
-use Rattle.std.specs.Prelude.{⊤, ℕ, ◌/◌, ◌^◌, List, [], ◌∷◌, ◌++◌, codes, decimal, None, Some, Result}
+use Rattle.std.specs.Prelude.{⊤, ℕ, ◌/◌, ◌^◌, List, [], ◌∷◌, ◌++◌, codes, decimal, None, Some}
+use Rattle.std.specs.Prelude.{Result}
 use Rattle.std.specs.declared.option.Option.{Option}
 use Rattle.sip_ports.specs.declared.port.PortStop.{PortStop}
 use Rattle.sip_ports.specs.declared.port.TalkEvent.{TalkEvent}

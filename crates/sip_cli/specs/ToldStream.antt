@@ -1,5 +1,6 @@
 -- What is told of a stream that is read.
-use Rattle.std.specs.Prelude.{◌≡◌, ℕ, ◌+◌, ◌-◌, ◌/◌, ◌^◌, ◌==◌, min, nat_le, if◌then◌else◌, List, [], length, take, Result, MatchResult}
+use Rattle.std.specs.Prelude.{◌≡◌, ℕ, ◌+◌, ◌-◌, ◌/◌, ◌^◌, ◌==◌, min, nat_le, if◌then◌else◌, List}
+use Rattle.std.specs.Prelude.{[], length, take, Result, MatchResult}
 use Rattle.std.specs.declared.option.Option.{Option}
 use Rattle.std.specs.List.{count_by}
 use Rattle.sip_ports.specs.declared.port.TalkEvent.{TalkEvent}

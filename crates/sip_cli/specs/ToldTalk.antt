@@ -1,5 +1,7 @@
 -- What is told of a talk: which reply is waited for, by the frames that were sent.
-use Rattle.std.specs.Prelude.{◌≡◌, ◌≢◌, ◌⊎◌, ℕ, ◌+◌, ◌-◌, ◌^◌, ◌==◌, ◌&&◌, ◌≤◌, ◌<◌, min, nat_le, not, Bool, true, false, if◌then◌else◌, List, [], length, Result, Ok, MatchResult, Some}
+use Rattle.std.specs.Prelude.{◌≡◌, ◌≢◌, ◌⊎◌, ℕ, ◌+◌, ◌-◌, ◌^◌, ◌==◌, ◌&&◌, ◌≤◌, ◌<◌, min, nat_le}
+use Rattle.std.specs.Prelude.{not, Bool, true, false, if◌then◌else◌, List, [], length, Result, Ok}
+use Rattle.std.specs.Prelude.{MatchResult, Some}
 use Rattle.std.specs.declared.option.Option.{Option}
 use Rattle.std.specs.List.{slice_get}
 use Rattle.sip_ports.specs.declared.port.TalkEvent.{TalkEvent}

@@ -1,9 +1,12 @@
 -- The commands: each is a verb, words of its shapes, and queries where it asks some.
 use Rattle.std.specs.Prelude.{ℕ, List, [], ◌∷◌, codes, length}
 use Rattle.sip_cli.specs.declared.shape.Shape.{Shape}
-use Rattle.sip_cli.specs.declared.shape.Shape.TheVariants.{Name, Stream, Stored, Helper, Helpers, Number, Depth}
+use Rattle.sip_cli.specs.declared.shape.Shape.TheVariants.{Name, Stream, Stored, Helper, Helpers}
+use Rattle.sip_cli.specs.declared.shape.Shape.TheVariants.{Number, Depth}
 use Rattle.sip_cli.specs.declared.verb.Verb.{Verb}
-use Rattle.sip_cli.specs.declared.verb.Verb.TheVariants.{Verify, Help, Audit, Show, Convert, Gen, Lines, Widen, Play, Lookup, HelpLook, Moments, HelpMoments, Panel}
+use Rattle.sip_cli.specs.declared.verb.Verb.TheVariants.{Verify, Help, Audit, Show, Convert, Gen}
+use Rattle.sip_cli.specs.declared.verb.Verb.TheVariants.{Lines, Widen, Play, Lookup, HelpLook}
+use Rattle.sip_cli.specs.declared.verb.Verb.TheVariants.{Moments, HelpMoments, Panel}
 use Rattle.sip_stream.specs.Made.{most_made}
 use Rattle.sip_wire.specs.Table.{most_queries}
 

@@ -1,5 +1,6 @@
 -- The words of a command.
-use Rattle.std.specs.Prelude.{◌≡◌, ℕ, ◌+◌, ◌-◌, ◌*◌, ◌<◌, ◌≤◌, ⊤, List, [], ◌++◌, length, take, slice_index_or, Some}
+use Rattle.std.specs.Prelude.{◌≡◌, ℕ, ◌+◌, ◌-◌, ◌*◌, ◌<◌, ◌≤◌, ⊤, List, [], ◌++◌, length, take}
+use Rattle.std.specs.Prelude.{slice_index_or, Some}
 use Rattle.std.specs.List.{slice_get}
 use Rattle.sip_stream.specs.declared.form.Form.{Form}
 use Rattle.sip_vector.specs.declared.query.Query.{Query}
@@ -14,7 +15,8 @@ use Rattle.sip_cli.specs.declared.shape.Shape.TheVariants.{Name}
 use Rattle.sip_cli.specs.declared.verb.Verb.{Verb}
 use Rattle.sip_cli.specs.declared.verb.Verb.TheVariants as verb
 use Rattle.sip_wire.specs.Table.{most_queries}
-use Rattle.sip_cli.specs.Shapes.{IsOf, HasForm, IsStoredWord, IsDepth, AreHelpers, Asks, AsksLook, AsksMoment, helper_word, parts}
+use Rattle.sip_cli.specs.Shapes.{IsOf, HasForm, IsStoredWord, IsDepth, AreHelpers, Asks, AsksLook}
+use Rattle.sip_cli.specs.Shapes.{AsksMoment, helper_word, parts}
 use Rattle.sip_cli.specs.Verbs.{verb_word, shapes, depth_at, least_asked, most_asked}
 
 -- word n, from 0
@@ -27,8 +29,8 @@ AsksOf verb.Lookup depth word = (lookup : Lookup) × AsksLook depth lookup word
 AsksOf verb.Moments depth word = (moment : Moment) × AsksMoment depth moment word
 AsksOf _ depth word = (query : Query) × Asks depth query word
 
--- The query of this number, counted from 1, and those before it have a seat for each helper that the
--- word names, 16 in all. Behind other verbs there are no seats to be had.
+-- The query of this number, counted from 1, and those before it have a seat for each helper that
+-- the word names, 16 in all. Behind other verbs there are no seats to be had.
 abbrev pub HasSeats : Verb → List ℕ → ℕ → Type 0
 HasSeats verb.Panel word number = number * length (parts word) ≤ most_queries
 HasSeats _ word number = ⊤

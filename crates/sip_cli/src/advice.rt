@@ -1,13 +1,15 @@
 //! The line of advice behind the line of a status.
 
-ghost use Rattle.std.specs.Prelude.{◌≡◌, ◌↔◌, ◌⊎◌, ℕ, List, IsTrue, MatchOption, Option, Some, OnOk, OnErr, Result, Ok};
+ghost use Rattle.std.specs.Prelude.{◌≡◌, ◌↔◌, ◌⊎◌, ℕ, List, IsTrue, MatchOption, Option, Some};
+ghost use Rattle.std.specs.Prelude.{OnOk, OnErr, Result, Ok};
 ghost use Rattle.std.specs.Option.{option_copied};
 ghost use Rattle.sip_ports.specs.declared.port.PortStop.{PortStop as AnyStop};
 ghost use Rattle.sip_ports.specs.Ports.{HasCause};
-ghost use Rattle.sip_cli.specs.Hints.{IsAdvised, IsAsText, IsHint, IsPlain, StandsAt, status_hint, why_hint};
+ghost use Rattle.sip_cli.specs.Hints.{IsAdvised, IsAsText, IsHint, IsPlain, StandsAt, status_hint};
+ghost use Rattle.sip_cli.specs.Hints.{why_hint};
 
 use crate::command::verb_of;
-use crate::place::Place;
+use crate::place::Role;
 use crate::stream::stream_of;
 use crate::{Ending, Words, hint_text as text};
 use sip_ports::{PortStop, Sink, write_whole};
@@ -15,12 +17,12 @@ use sip_stream::Why;
 use sip_verifier::{Port, Status};
 
 // The place of the word of this number, by the verb that word 0 is.
-fn place_of(words: &Words, word: usize) -> Place
+fn place_of(words: &Words, word: usize) -> Role
     ensures { StandsAt words.now word result }
 {
     match verb_of(words) {
-        Some(verb) => Place::at(verb, word),
-        None => Place::Verb,
+        Some(verb) => Role::at(verb, word),
+        None => Role::Verb,
     }
 }
 
@@ -98,9 +100,9 @@ fn status_line(status: &Status) -> Option<&'static str>
     }
 }
 
-/// The line of advice for a status that these words came to, if there is one to give: what may stand
-/// at the word that was refused, how a stream is named or a record is written, or what else can be
-/// done. It follows from the words and the status alone.
+/// The line of advice for a status that these words came to, if there is one to give: what may
+/// stand at the word that was refused, how a stream is named or a record is written, or what else
+/// can be done. It follows from the words and the status alone.
 pub fn hint(words: &Words, status: &Status) -> Option<&'static str>
     ensures { MatchOption result
         ((text : List ℕ) → IsHint words.now status.now text → ⊥)

@@ -15,7 +15,7 @@ use sip_vector::{Depth, Query};
 use sip_wire::MOST_QUERIES;
 
 /// What one word behind a depth may ask.
-pub(crate) trait Asked: Default + Drop {
+pub(crate) trait AskedWord: Default + Drop {
     ghost use Rattle.std.specs.Prelude.{ℕ, List, MatchOption};
 
     /// A word asks it at a depth.
@@ -29,7 +29,7 @@ pub(crate) trait Asked: Default + Drop {
 }
 
 /// A query whose kind is built and which fits the depth.
-impl Asked for Query {
+impl AskedWord for Query {
     ghost use Rattle.sip_cli.specs.Shapes.{Asks};
 
     ghost is_word = { Asks };
@@ -40,7 +40,7 @@ impl Asked for Query {
 }
 
 /// A lookup at an item of the stream.
-impl Asked for Lookup {
+impl AskedWord for Lookup {
     ghost use Rattle.sip_cli.specs.Shapes.{AsksLook};
 
     ghost is_word = { AsksLook };
@@ -51,7 +51,7 @@ impl Asked for Lookup {
 }
 
 /// A moment of a degree that can be checked, at whatever depth.
-impl Asked for Moment {
+impl AskedWord for Moment {
     ghost use Rattle.sip_cli.specs.Shapes.{AsksMoment};
 
     ghost is_word = { AsksMoment };
@@ -66,7 +66,7 @@ impl Asked for Moment {
 /// # Errors
 ///
 /// The number of the first that asks nothing, or of the one that is one too many.
-pub(crate) fn read_asked<Q: Asked>(
+pub(crate) fn read_asked<Q: AskedWord>(
     words: &Words,
     depth: Depth,
     first: usize,

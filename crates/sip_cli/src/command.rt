@@ -1,18 +1,21 @@
 //! What a command asks for.
 
-ghost use Rattle.std.specs.Prelude.{◌≡◌, ◌≢◌, ℕ, ◌+◌, ◌<◌, ◌≤◌, IsTrue, ◌↔◌, List, MatchOption, OnOk, IfOk, IfErr, length};
+ghost use Rattle.std.specs.Prelude.{◌≡◌, ◌≢◌, ℕ, ◌+◌, ◌<◌, ◌≤◌, IsTrue, ◌↔◌, List, MatchOption};
+ghost use Rattle.std.specs.Prelude.{OnOk, IfOk, IfErr, length};
 ghost use Rattle.arrayvec.specs.ArrayVec.{ArrayVec as AnyNames};
 ghost use Rattle.sip_verifier.specs.declared.task.Task.{Task as AnyTask};
 ghost use Rattle.sip_cli.specs.declared.stream.Stream.{Stream as AnyStream};
 ghost use Rattle.sip_cli.specs.declared.helper_name.HelperName.{HelperName as AnyName};
-ghost use Rattle.sip_cli.specs.Shapes.{AreHelpers, Asks, IsDepth, HasForm, IsStreamWord, helper_word};
+ghost use Rattle.sip_cli.specs.Shapes.{AreHelpers, Asks, IsDepth, HasForm, IsStreamWord};
+ghost use Rattle.sip_cli.specs.Shapes.{helper_word};
 ghost use Rattle.sip_cli.specs.Words.{IsCommandOf, SaysAll, SaysTask, Spells, IsRefusedAt, word};
 ghost use Rattle.sip_cli.specs.Verbs.{verb_word};
 ghost use Rattle.sip_wire.specs.Table.{most_queries};
-ghost use Rattle.sip_cli.specs.inside.Progress.{Fitted, HaveShapes, SeatsUpTo, TakesAll, TakesLink, TakesName, TakesStream, StopsInShapes};
+ghost use Rattle.sip_cli.specs.inside.Progress.{Fitted, HaveShapes, SeatsUpTo, TakesAll, TakesLink};
+ghost use Rattle.sip_cli.specs.inside.Progress.{TakesName, TakesStream, StopsInShapes};
 ghost use Rattle.sip_cli.specs.declared.verb.Verb.{Verb as AnyVerb};
 
-use crate::asked::{Asked, read_asked};
+use crate::asked::{AskedWord, read_asked};
 use crate::decimal::read_decimal;
 use crate::helper_name::read_helpers;
 use crate::shape::Shape;
@@ -46,7 +49,8 @@ pub enum Command {
     Lines { form: Form, depth: Depth },
     /// To write a stream as wide records: `widen STREAM DEPTH`.
     Widen { form: Form, depth: Depth },
-    /// To verify answers of a helper in the program: `play STREAM SEED HELPER RECORD DEPTH QUERY..`.
+    /// To verify answers of a helper in the program: `play STREAM SEED HELPER RECORD DEPTH
+    /// QUERY..`.
     Play(Task, HelperName),
     /// To look up entries of a stream: `lookup STREAM SEED FROM TO DEPTH LOOKUP..`.
     Lookup(LookTask),
@@ -56,7 +60,8 @@ pub enum Command {
     Moments(MomentTask),
     /// To help another side to verify moments: `helpmom FROM TO`.
     HelpMoments,
-    /// To verify answers of several helpers in the program: `panel STREAM SEED HELPERS DEPTH QUERY..`.
+    /// To verify answers of several helpers in the program: `panel STREAM SEED HELPERS DEPTH
+    /// QUERY..`.
     Panel(Task, ArrayVec<HelperName, MOST_QUERIES>),
 }
 
@@ -171,7 +176,7 @@ fn depth_at(words: &Words, number: usize) -> Option<Depth>
 
 // What the words say behind a verb whose stream is word 1 and whose depth is the word of this
 // number: the depth, the form of the stream, and what is asked, of which there is so much at most.
-fn read_all<Q: Asked>(
+fn read_all<Q: AskedWord>(
     words: &Words,
     last: usize,
     most: usize,
@@ -392,8 +397,8 @@ fn read_copy(words: &Words) -> Result<(Form, Depth), Usage>
 ///
 /// # Errors
 ///
-/// The number, from 0, of the first word such that the words up to it begin no command; where all words begin one that
-/// is not whole, the number of words.
+/// The number, from 0, of the first word such that the words up to it begin no command; where all
+/// words begin one that is not whole, the number of words.
 pub fn read_words(words: &Words) -> Result<Command, Usage>
     ensures command { IfOk result (Spells words.now) }
     ensures refused { IfErr result (λ usage. IsRefusedAt words.now usage.word) }

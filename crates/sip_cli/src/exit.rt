@@ -11,8 +11,8 @@ use sip_ports::{PortStop, Sink};
 use sip_verifier::Status;
 use std::io::{Error, ErrorKind};
 
-/// The code that the program ends with: 0 all went well, 1 rejected, 2 no command, 3 bad input, 4 a port or the other
-/// end failed, 5 out of memory.
+/// The code that the program ends with: 0 all went well, 1 rejected, 2 no command, 3 bad input, 4 a
+/// port or the other end failed, 5 out of memory.
 pub fn exit_code(status: &Status) -> u8
     ensures { result ≡ code_of status.now }
 {
@@ -55,7 +55,8 @@ pub struct Ending {
     pub line: Result<(), PortStop>,
 }
 
-/// Ends a run: writes the line of its status, if it has one, and answers the code that the program ends with.
+/// Ends a run: writes the line of its status, if it has one, and answers the code that the program
+/// ends with.
 pub fn finish<K: Sink>(status: &Status, errors: &mut K) -> Ending
     ensures code { result.code ≡ code_of status.now }
     ensures line { SendsWhole (K.talk errors.old)

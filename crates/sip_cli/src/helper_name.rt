@@ -35,7 +35,8 @@ impl HelperName {
     }
 }
 
-/// The helpers that a word names, in their order, with a comma between two of them. There are 1 to 16.
+/// The helpers that a word names, in their order, with a comma between two of them. There are 1 to
+/// 16.
 pub(crate) fn read_helpers(word: &str) -> Option<ArrayVec<HelperName, MOST_QUERIES>>
     ensures { MatchOption result
         ((names : List AnyName) → AreHelpers names word.now → ⊥)

@@ -9,7 +9,8 @@ show, convert, gen, lines or widen; sip --help tells of each\n";
 
 /// A stream.
 pub(crate) const STREAM: &str = "\
-sip: hint: STREAM is here: PATH, text:PATH, wide:PATH or made:NUMBER:COUNT with COUNT up to 10000000\n";
+sip: hint: STREAM is here: PATH, text:PATH, wide:PATH or made:NUMBER:COUNT with COUNT up to \
+10000000\n";
 
 /// A stream that a file holds.
 pub(crate) const STORED: &str = "\
@@ -128,7 +129,8 @@ degree, or count in greater units\n";
 
 /// Bytes that are no transcript.
 pub(crate) const BROKEN: &str = "\
-sip: hint: TRANSCRIPT is a file that verify or play kept; that of a rejected run may end inside a frame\n";
+sip: hint: TRANSCRIPT is a file that verify or play kept; that of a rejected run may end inside \
+a frame\n";
 
 /// Bytes that no verifier sends there.
 pub(crate) const FRAME: &str = "\
@@ -159,4 +161,5 @@ the other side has left\n";
 
 /// The verifier left.
 pub(crate) const LEFT: &str = "\
-sip: hint: the other side, sip verify, sip lookup or sip moments, left before its end and says why\n";
+sip: hint: the other side, sip verify, sip lookup or sip moments, left before its end and says \
+why\n";

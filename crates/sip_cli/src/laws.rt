@@ -1,10 +1,11 @@
 //! What follows from the definitions of this crate and from what its commands keep: what an audit
-//! comes to that is given what another command left, and with which words the lines of moments begin.
+//! comes to that is given what another command left, and with which words the lines of moments
+//! begin.
 
 ghost use Rattle.std.specs.Prelude.{◌≡◌, ℤ, ◌++◌, ◌∷◌, [], codes};
 ghost use Rattle.std.specs.Fmt.{signed_decimal};
 ghost use Rattle.sip_moments.specs.declared.moment.Moment.{Moment as AnyMoment};
-ghost use Rattle.sip_moments.specs.Manner.{line};
+ghost use Rattle.sip_moments.specs.Manner.{line, moment_word};
 ghost use Rattle.sip_stream.specs.declared.form.Form.{Form as AnyForm};
 ghost use Rattle.sip_verifier.specs.declared.status.Status.{Status as AnyStatus};
 ghost use Rattle.sip_verifier.specs.declared.task.Task.{Task as AnyTask};
@@ -12,7 +13,6 @@ ghost use Rattle.sip_verifier.specs.Exchanges.{Exchange as AnyExchange};
 ghost use Rattle.sip_transcript.specs.Agreements.{AuditAgrees};
 ghost use Rattle.sip_transcript.specs.AlikeAudits.{ConvertAgrees, TellSame};
 ghost use Rattle.sip_transcript.specs.Auditing.{Audit as Audited};
-ghost use Rattle.sip_cli.specs.Shapes.{moment_word};
 ghost use Rattle.sip_cli.specs.Stored.{DidAudit, DidConvert, DidKeep};
 
 /// `verify`, and then `audit` of the stream that it read and the transcript that it kept. Where the

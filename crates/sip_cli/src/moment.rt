@@ -1,19 +1,19 @@
 //! The word that asks a moment.
 
 ghost use Rattle.std.specs.Prelude.{◌≡◌, ◌≢◌, ℕ, ◌++◌, decimal, MatchOption};
+ghost use Rattle.sip_moments.specs.Manner.{moment_word};
 ghost use Rattle.sip_moments.specs.Moments.{IsDegree};
 ghost use Rattle.sip_moments.specs.declared.moment.Moment.{Moment as AnyMoment};
-ghost use Rattle.sip_cli.specs.Shapes.{moment_word};
 
 use crate::query::number_behind;
 use sip_moments::Moment;
 use sip_vector::Side;
 
 /// The least degree of a moment that can be asked.
-const LEAST_DEGREE: u64 = 3;
+const LEAST_DEGREE: u64 = sip_moments::LEAST_DEGREE as u64;
 
 /// The greatest one.
-const MOST_DEGREE: u64 = 8;
+const MOST_DEGREE: u64 = sip_wire::MOST_DEGREE as u64;
 
 // The degree behind this front of a word.
 fn degree_behind(front: &str, word: &str) -> Option<u8>

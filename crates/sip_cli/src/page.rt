@@ -3,7 +3,8 @@
 ghost use Rattle.std.specs.Prelude.{◌≡◌, ◌⊎◌, ◌↔◌, ℕ, IsTrue, List, [], ◌∷◌, Some, IsSome, IfSome};
 ghost use Rattle.std.specs.Option.{option_copied};
 ghost use Rattle.sip_ports.specs.Ports.{Lasts, Rose};
-ghost use Rattle.sip_cli.specs.Pages.{AsksHelp, AsksPart, AsksText, AsksVersion, PageClause, part_of};
+ghost use Rattle.sip_cli.specs.Pages.{AsksHelp, AsksPart, AsksText, AsksVersion, PageClause};
+ghost use Rattle.sip_cli.specs.Pages.{part_of};
 ghost use Rattle.sip_cli.specs.Words.{IsRefusedAt};
 
 use crate::page_text::{
@@ -76,8 +77,8 @@ fn part_asked(words: &Words) -> Option<&'static str>
 }
 
 /// The text that the words ask for in place of a command: the page for `--help` or `-h` alone, the
-/// version for `--version` or `-V` alone, and for a verb with `--help` or `-h` behind it its part of
-/// the page. These words are no command, so that a text hides none.
+/// version for `--version` or `-V` alone, and for a verb with `--help` or `-h` behind it its part
+/// of the page. These words are no command, so that a text hides none.
 pub fn page_of(words: &Words) -> Option<&'static str>
     ensures help { (w : List ℕ) → AsksHelp w → words.now ≡ w ∷ []
         → option_copied result ≡ Some HELP.now }

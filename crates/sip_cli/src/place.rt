@@ -9,7 +9,7 @@ use sip_wire::MOST_QUERIES;
 
 /// What stands at a word of a command.
 #[derive(Clone, Copy, Debug, PartialEq, Eq, Default)]
-pub(crate) enum Place {
+pub(crate) enum Role {
     /// The verb.
     #[default]
     Verb,
@@ -35,59 +35,59 @@ pub(crate) enum Place {
     End,
 }
 
-const VERIFY: [Place; 7] = [
-    Place::Verb,
-    Place::Stream,
-    Place::Seed,
-    Place::From,
-    Place::To,
-    Place::Record,
-    Place::Depth,
+const VERIFY: [Role; 7] = [
+    Role::Verb,
+    Role::Stream,
+    Role::Seed,
+    Role::From,
+    Role::To,
+    Role::Record,
+    Role::Depth,
 ];
 
-const HELP: [Place; 3] = [Place::Verb, Place::From, Place::To];
+const HELP: [Role; 3] = [Role::Verb, Role::From, Role::To];
 
-const AUDIT: [Place; 3] = [Place::Verb, Place::Stored, Place::Transcript];
+const AUDIT: [Role; 3] = [Role::Verb, Role::Stored, Role::Transcript];
 
-const SHOW: [Place; 2] = [Place::Verb, Place::Transcript];
+const SHOW: [Role; 2] = [Role::Verb, Role::Transcript];
 
-const CONVERT: [Place; 2] = [Place::Verb, Place::Transcript];
+const CONVERT: [Role; 2] = [Role::Verb, Role::Transcript];
 
-const GEN: [Place; 4] = [Place::Verb, Place::Number, Place::Count, Place::Depth];
+const GEN: [Role; 4] = [Role::Verb, Role::Number, Role::Count, Role::Depth];
 
-const LINES: [Place; 3] = [Place::Verb, Place::Stream, Place::Depth];
+const LINES: [Role; 3] = [Role::Verb, Role::Stream, Role::Depth];
 
-const WIDEN: [Place; 3] = [Place::Verb, Place::Stream, Place::Depth];
+const WIDEN: [Role; 3] = [Role::Verb, Role::Stream, Role::Depth];
 
-const PLAY: [Place; 6] = [
-    Place::Verb,
-    Place::Stream,
-    Place::Seed,
-    Place::Helper,
-    Place::Record,
-    Place::Depth,
+const PLAY: [Role; 6] = [
+    Role::Verb,
+    Role::Stream,
+    Role::Seed,
+    Role::Helper,
+    Role::Record,
+    Role::Depth,
 ];
 
-const PANEL: [Place; 5] = [
-    Place::Verb,
-    Place::Stream,
-    Place::Seed,
-    Place::Helpers,
-    Place::Depth,
+const PANEL: [Role; 5] = [
+    Role::Verb,
+    Role::Stream,
+    Role::Seed,
+    Role::Helpers,
+    Role::Depth,
 ];
 
 // Of `moments` too.
-const LOOKUP: [Place; 6] = [
-    Place::Verb,
-    Place::Stream,
-    Place::Seed,
-    Place::From,
-    Place::To,
-    Place::Depth,
+const LOOKUP: [Role; 6] = [
+    Role::Verb,
+    Role::Stream,
+    Role::Seed,
+    Role::From,
+    Role::To,
+    Role::Depth,
 ];
 
 // The places of a verb's words, the verb among them, and before what it asks.
-fn places_of(verb: Verb) -> &'static [Place]
+fn places_of(verb: Verb) -> &'static [Role]
     ensures { result.now ≡ places verb }
 {
     match verb {
@@ -107,14 +107,14 @@ fn places_of(verb: Verb) -> &'static [Place]
 }
 
 // What stands behind these words, where the verb asks something.
-fn asked_by(verb: Verb) -> Place
+fn asked_by(verb: Verb) -> Role
     ensures { result ≡ asked_by verb }
 {
     match verb {
-        Verb::Lookup => Place::Lookup,
-        Verb::Moments => Place::Moment,
-        Verb::Panel => Place::Shared,
-        _ => Place::Query,
+        Verb::Lookup => Role::Lookup,
+        Verb::Moments => Role::Moment,
+        Verb::Panel => Role::Shared,
+        _ => Role::Query,
     }
 }
 
@@ -137,15 +137,15 @@ fn behind_asked(verb: Verb) -> usize
     places_of(verb).len() + asked
 }
 
-impl Place {
+impl Role {
     /// The place of a verb's word of this number.
-    pub(crate) fn at(verb: Verb, word: usize) -> Place
+    pub(crate) fn at(verb: Verb, word: usize) -> Role
         ensures { result ≡ place_at verb word }
     {
         match places_of(verb).get(word) {
             Some(place) => *place,
             None if word < behind_asked(verb) => asked_by(verb),
-            None => Place::End,
+            None => Role::End,
         }
     }
 
@@ -154,24 +154,24 @@ impl Place {
         ensures { result.now ≡ place_hint self }
     {
         match self {
-            Place::Verb => text::VERB,
-            Place::Stream => text::STREAM,
-            Place::Stored => text::STORED,
-            Place::Seed => text::SEED,
-            Place::From => text::FROM,
-            Place::To => text::TO,
-            Place::Record => text::RECORD,
-            Place::Helper => text::HELPER,
-            Place::Transcript => text::TRANSCRIPT,
-            Place::Number => text::NUMBER,
-            Place::Count => text::COUNT,
-            Place::Depth => text::DEPTH,
-            Place::Query => text::QUERY,
-            Place::Lookup => text::LOOKUP,
-            Place::Moment => text::MOMENT,
-            Place::Helpers => text::HELPERS,
-            Place::Shared => text::SHARED,
-            Place::End => text::END,
+            Role::Verb => text::VERB,
+            Role::Stream => text::STREAM,
+            Role::Stored => text::STORED,
+            Role::Seed => text::SEED,
+            Role::From => text::FROM,
+            Role::To => text::TO,
+            Role::Record => text::RECORD,
+            Role::Helper => text::HELPER,
+            Role::Transcript => text::TRANSCRIPT,
+            Role::Number => text::NUMBER,
+            Role::Count => text::COUNT,
+            Role::Depth => text::DEPTH,
+            Role::Query => text::QUERY,
+            Role::Lookup => text::LOOKUP,
+            Role::Moment => text::MOMENT,
+            Role::Helpers => text::HELPERS,
+            Role::Shared => text::SHARED,
+            Role::End => text::END,
         }
     }
 }

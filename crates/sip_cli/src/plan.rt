@@ -1,6 +1,7 @@
 //! What the ports of a command are opened on.
 
-ghost use Rattle.std.specs.Prelude.{◌≡◌, ℕ, ◌≤◌, ◌<◌, ◌^◌, Some, IsSome, IfSome, List, decimal, drop, length};
+ghost use Rattle.std.specs.Prelude.{◌≡◌, ℕ, ◌≤◌, ◌<◌, ◌^◌, Some, IsSome, IfSome, List, decimal};
+ghost use Rattle.std.specs.Prelude.{drop, length};
 ghost use Rattle.std.specs.Option.{option_copied};
 ghost use Rattle.sip_verifier.specs.declared.task.Task.{Task as AnyTask};
 ghost use Rattle.sip_lookup.specs.declared.task.LookTask.{LookTask as AnyLookTask};
@@ -8,7 +9,9 @@ ghost use Rattle.sip_moments.specs.declared.task.MomentTask.{MomentTask as AnyMo
 ghost use Rattle.sip_cli.specs.declared.command.Command.{Command as AnyCommand};
 ghost use Rattle.sip_cli.specs.declared.stream.Stream.{Stream as AnyStream};
 ghost use Rattle.sip_stream.specs.Made.{most_made};
-ghost use Rattle.sip_cli.specs.Plan.{HasName, HaveNames, IsMarked, IsRecord, Opens, audit_ports, file_name, help_ports, no_ports, opening_of, play_ports, source_ports, stored_opening, transcript_ports, verify_ports};
+ghost use Rattle.sip_cli.specs.Plan.{HasName, HaveNames, IsMarked, IsRecord, Opens, audit_ports};
+ghost use Rattle.sip_cli.specs.Plan.{file_name, help_ports, no_ports, opening_of, play_ports};
+ghost use Rattle.sip_cli.specs.Plan.{source_ports, stored_opening, transcript_ports, verify_ports};
 ghost use Rattle.sip_cli.specs.Shapes.{IsStreamWord};
 ghost use Rattle.sip_cli.specs.Words.{Spells, IsRefusedAt, word, word as word_at};
 
@@ -28,13 +31,14 @@ pub enum Opening {
     /// On a file that must not be emptied, since the command reads it or writes it at another port.
     /// So nothing is opened, and the port's calls fail.
     Spared,
-    /// On the file whose name is a word of the command without its first `skip` bytes. Words are numbered from 0.
+    /// On the file whose name is a word of the command without its first `skip` bytes. Words are
+    /// numbered from 0.
     Path {
         word: usize,
         skip: usize,
     },
-    /// On the records that a generator makes from a number, for a depth; `count` of them, which is at most
-    /// `MadeSource::MOST`.
+    /// On the records that a generator makes from a number, for a depth; `count` of them, which is
+    /// at most `MadeSource::MOST`.
     Made {
         number: u64,
         count: u64,
@@ -52,8 +56,8 @@ fn without(text: &str, skip: usize) -> Option<&str>
 }
 
 impl Opening {
-    /// The name of the file; `None` where the port is opened on none. All openings that [`ports`] gives for the words
-    /// have their name there.
+    /// The name of the file; `None` where the port is opened on none. All openings that [`ports`]
+    /// gives for the words have their name there.
     pub fn name(self, words: &Words) -> Option<&str>
         ensures name { HasName words.now self → option_copied result ≡ file_name self words.now }
         ensures only { IfSome result (λ name. file_name self words.now ≡ Some name.now) }
@@ -145,7 +149,8 @@ impl Opening {
     }
 }
 
-/// What the ports of a run are opened on: two sources, the two ends of a link, and what keeps the transcript.
+/// What the ports of a run are opened on: two sources, the two ends of a link, and what keeps the
+/// transcript.
 #[derive(Clone, Copy, Debug, PartialEq, Eq)]
 pub struct PortPlan {
     /// The stream.
@@ -160,8 +165,8 @@ pub struct PortPlan {
     pub keep: Opening,
 }
 
-/// Which end of a link is opened first. To open a FIFO waits for its other end, so that the two sides of a talk open
-/// theirs in turned orders.
+/// Which end of a link is opened first. To open a FIFO waits for its other end, so that the two
+/// sides of a talk open theirs in turned orders.
 #[derive(Clone, Copy, Debug, PartialEq, Eq)]
 pub enum LinkOrder {
     /// The end that takes our bytes: a verifier's.
@@ -207,7 +212,8 @@ impl PortPlan {
         }
     }
 
-    // The ports of `verify`, and of `lookup` and `moments`, whose stream and whose transcript are opened like this.
+    // The ports of `verify`, and of `lookup` and `moments`, whose stream and whose transcript are
+    // opened like this.
     fn verify(first: Opening, keep: Opening) -> PortPlan
         ensures { result ≡ verify_ports first keep }
     {
@@ -312,9 +318,9 @@ impl PortPlan {
 /// The files and made streams that a command opens: for `verify` its stream, its seed, the two ends
 /// of its link and the file of its transcript, if it is to keep one, for `lookup` and `moments` the
 /// same without a transcript, for `play` without a link, for `panel` without either, for `help`,
-/// `helplook` and `helpmom` the two ends of their link, for `audit` its stream and the transcript, for
-/// `show` and `convert` the transcript, for `gen`, `lines` and `widen` their stream. Words that are no
-/// command open nothing.
+/// `helplook` and `helpmom` the two ends of their link, for `audit` its stream and the transcript,
+/// for `show` and `convert` the transcript, for `gen`, `lines` and `widen` their stream. Words that
+/// are no command open nothing.
 pub fn ports(words: &Words) -> PortPlan
     ensures spelled { (command : AnyCommand) → Spells words.now command
         → Opens words.now command result }

@@ -2,7 +2,7 @@
 
 ghost use Rattle.std.specs.Prelude.{◌≡◌, [], Some, None, IfOk, OnErr, MatchOption};
 ghost use Rattle.sip_ports.specs.Ports.{Lasts};
-ghost use Rattle.sip_duel.specs.Told.{told};
+ghost use Rattle.sip_duel.specs.Told.{told_state};
 ghost use Rattle.sip_helper.specs.Turns.{fresh};
 ghost use Rattle.sip_verifier.specs.declared.task.Task.{Task as AnyTask};
 ghost use Rattle.sip_verifier.specs.Exchanges.{TakesAtMost};
@@ -24,7 +24,7 @@ use std::alloc::Global;
 // longer than that.
 #[inline(never)]
 pub(crate) fn honest(alloc: Global) -> Result<Box<Honest>, OutOfMemory>
-    ensures { IfOk result (λ helper. told helper.value ≡ Some fresh) }
+    ensures { IfOk result (λ helper. told_state helper.value ≡ Some fresh) }
 {
     Ok(Box::new(alloc, Honest::new(alloc))?)
 }
@@ -36,7 +36,8 @@ pub(crate) fn skewed(alloc: Global) -> Result<Box<Skewed>, OutOfMemory> {
 }
 
 // Does a task over a link to a boxed helper, which is the one of this name: so much is asked of the
-// name, and what the box is shows nowhere else. Where memory is refused to the link nothing is done.
+// name, and what the box is shows nowhere else. Where memory is refused to the link nothing is
+// done.
 #[inline(never)]
 fn play_boxed<A: Source, B: Source, K: Sink, C: Sink>(
     alloc: Global,
@@ -144,11 +145,11 @@ fn task_to_play(words: &Words) -> Option<(Task, HelperName)>
 
 /// Does what words of `play` say; other words give `None`, and then no port is called.
 ///
-/// `play STREAM SEED HELPER RECORD DEPTH QUERY..` is [`run`](crate::run) over a link to the helper of
-/// that name, which is made here, and is closed and dropped at the end. `keep` gets the transcript of
-/// the run. Memory grows with the entries that are not 0, which the helper keeps, and with the talk,
-/// which the link keeps. Where memory is refused to the helper or the link, the run ends at once for
-/// want of it.
+/// `play STREAM SEED HELPER RECORD DEPTH QUERY..` is [`run`](crate::run) over a link to the helper
+/// of that name, which is made here, and is closed and dropped at the end. `keep` gets the
+/// transcript of the run. Memory grows with the entries that are not 0, which the helper keeps, and
+/// with the talk, which the link keeps. Where memory is refused to the helper or the link, the run
+/// ends at once for want of it.
 #[inline(never)]
 pub fn play_words<A: Source, B: Source, K: Sink, C: Sink>(
     alloc: Global,

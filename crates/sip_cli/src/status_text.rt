@@ -122,8 +122,9 @@ fn line_of(status: &Status) -> ArrayVec<u8, ROOM>
     }
 }
 
-/// Writes the line of a status in one piece: what went wrong, and where. Nothing is written where all went well, nor
-/// for a rejection, whose line the report has. It takes no memory beyond a fixed buffer.
+/// Writes the line of a status in one piece: what went wrong, and where. Nothing is written where
+/// all went well, nor for a rejection, whose line the report has. It takes no memory beyond a fixed
+/// buffer.
 ///
 /// # Errors
 ///

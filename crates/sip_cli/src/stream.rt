@@ -1,6 +1,7 @@
 //! The word that names a stream.
 
-ghost use Rattle.std.specs.Prelude.{◌≡◌, ◌≢◌, ◌↔◌, IsTrue, ℕ, ◌≤◌, ◌<◌, ◌^◌, MatchOption, decimal, length, ◌++◌, ◌∷◌};
+ghost use Rattle.std.specs.Prelude.{◌≡◌, ◌≢◌, ◌↔◌, IsTrue, ℕ, ◌≤◌, ◌<◌, ◌^◌, MatchOption, decimal};
+ghost use Rattle.std.specs.Prelude.{length, ◌++◌, ◌∷◌};
 ghost use Rattle.sip_stream.specs.declared.form.Form.{Form as AnyForm};
 ghost use Rattle.sip_stream.specs.Made.{most_made};
 ghost use Rattle.sip_cli.specs.declared.stream.Stream.{Stream as AnyStream};

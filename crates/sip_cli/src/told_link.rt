@@ -1,6 +1,7 @@
 //! A link that says on the way which reply it waits for.
 
-ghost use Rattle.std.specs.Prelude.{◌≡◌, ◌⊎◌, ℕ, ◌≤◌, ◌<◌, IfOk, IfSome, Some, None, OnOk, MatchOption, length};
+ghost use Rattle.std.specs.Prelude.{◌≡◌, ◌⊎◌, ℕ, ◌≤◌, ◌<◌, IfOk, IfSome, Some, None, OnOk};
+ghost use Rattle.std.specs.Prelude.{MatchOption, length};
 ghost use Rattle.std.specs.Io.{ReadsAtMost, WritesAtMost};
 ghost use Rattle.std.specs.Option.{option_copied, option_map};
 ghost use Rattle.sip_ports.specs.Ports.{HasCause, Hears, Sends, StandsStill};
@@ -8,7 +9,10 @@ ghost use Rattle.sip_vector.specs.declared.query.Query.{Query as AnyQuery};
 ghost use Rattle.sip_wire.specs.Table.{most_queries};
 ghost use Rattle.sip_cli.specs.declared.command.Command.{Command as AnyCommand};
 ghost use Rattle.sip_cli.specs.Telling.{IfTold, Says};
-ghost use Rattle.sip_cli.specs.ToldTalk.{BeginsFrame, IsAsk, IsFrameOf, IsNumber, IsScript, SendsOn, TellsReceive, TellsWrite, awaits, heard_more, hears_on, line_before, line_said, talk_teller, told_link, unsaid};
+ghost use Rattle.sip_cli.specs.ToldTalk.{BeginsFrame, IsAsk, IsFrameOf, IsNumber, IsScript};
+ghost use Rattle.sip_cli.specs.ToldTalk.{SendsOn, TellsReceive, TellsWrite, awaits, heard_more};
+ghost use Rattle.sip_cli.specs.ToldTalk.{hears_on, line_before, line_said, talk_teller, told_link};
+ghost use Rattle.sip_cli.specs.ToldTalk.{unsaid};
 ghost use Rattle.sip_cli.specs.Words.{Spells, IsRefusedAt};
 
 use crate::progress::{STEP, from_line, reply_line, say};

@@ -1,13 +1,16 @@
 //! A source that says on the way how much of the stream was read.
 
-ghost use Rattle.std.specs.Prelude.{◌≡◌, ◌⊎◌, ℕ, ◌≤◌, nat_le, IfSome, MatchOption, Some, None, OnOk, OnErr, length, take};
+ghost use Rattle.std.specs.Prelude.{◌≡◌, ◌⊎◌, ℕ, ◌≤◌, nat_le, IfSome, MatchOption, Some, None};
+ghost use Rattle.std.specs.Prelude.{OnOk, OnErr, length, take};
 ghost use Rattle.std.specs.Io.{ReadsAtMost, StartsWith};
 ghost use Rattle.std.specs.Option.{option_copied, option_map};
 ghost use Rattle.std.specs.Io.KnownBytes.{Consumes, ReadConsumes};
 ghost use Rattle.sip_ports.specs.Ports.{HasCause, StandsStill};
 ghost use Rattle.sip_cli.specs.declared.command.Command.{Command as AnyCommand};
 ghost use Rattle.sip_cli.specs.Telling.{IfTold, Says};
-ghost use Rattle.sip_cli.specs.ToldStream.{TellsRead, TellsSkip, feeds_in, line_before, line_said, read_more, records_in, stream_form, stream_teller, told_source, unread};
+ghost use Rattle.sip_cli.specs.ToldStream.{TellsRead, TellsSkip, feeds_in, line_before, line_said};
+ghost use Rattle.sip_cli.specs.ToldStream.{read_more, records_in, stream_form, stream_teller};
+ghost use Rattle.sip_cli.specs.ToldStream.{told_source, unread};
 ghost use Rattle.sip_cli.specs.Words.{Spells, IsRefusedAt};
 
 use crate::progress::{STEP, say, stream_line};

@@ -148,9 +148,9 @@ pub fn run<A: Source, B: Source, L: Link, K: Sink, C: Sink>(
     report: &mut K,
     keep: &mut C,
 ) -> Status
-    // Of `verify`, `play` and `panel` the seven promises, of `lookup` and `moments` their five, of `gen`,
-    // `lines` and `widen` the copy that the report gets, of `help`, `helplook` and `helpmom` the
-    // talk that it serves, of `audit` what a stored run is judged to be, and of `show` and
+    // Of `verify`, `play` and `panel` the seven promises, of `lookup` and `moments` their five, of
+    // `gen`, `lines` and `widen` the copy that the report gets, of `help`, `helplook` and `helpmom`
+    // the talk that it serves, of `audit` what a stored run is judged to be, and of `show` and
     // `convert` what the report gets of the transcript; and whatever the command, its faults have
     // their cause, and its status is one of its own.
     ensures keeps { CommandClause (Spells words.now)

@@ -1,6 +1,7 @@
 //! The words of a command.
 
-ghost use Rattle.std.specs.Prelude.{◌≡◌, ◌≢◌, ◌↔◌, IsTrue, ℕ, List, [], ◌∷◌, map, string_bytes, MatchOption};
+ghost use Rattle.std.specs.Prelude.{◌≡◌, ◌≢◌, ◌↔◌, IsTrue, ℕ, List, [], ◌∷◌, map, string_bytes};
+ghost use Rattle.std.specs.Prelude.{MatchOption};
 ghost use Rattle.std.specs.List.{slice_get};
 ghost use Rattle.sip_cli.specs.Behind.{IsBehind, progress_word};
 ghost use Rattle.std.specs.Option.{option_copied};
@@ -92,8 +93,9 @@ impl Words {
     }
 }
 
-/// The words are no command; `word` is the number of the first word such that the words up to it begin none, from 0.
-/// Where all words begin a command that is not whole, it is the number of words.
+/// The words are no command; `word` is the number of the first word such that the words up to it
+/// begin none, from 0. Where all words begin a command that is not whole, it is the number of
+/// words.
 #[derive(Clone, Copy, Debug, PartialEq, Eq)]
 pub struct Usage {
     /// The number of the word, from 0.

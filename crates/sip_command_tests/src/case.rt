@@ -1,36 +1,66 @@
-// The case of a table at which a test fails.
+//! The case of a table at which a test fails.
 
 use sip_ports::TalkEvent;
 use sip_verifier::Status;
-use std::process::Abort;
 
-// A case, by its name and the chunk of its ports, or the call of a port that is to fail. Each
-// message of an assertion is proved where it stands, and takes as long as a small function, so all
-// tests have theirs here.
-#[derive(Clone, Copy)]
+/// A case, by its name and the chunk of its ports, or the call of a port that is to fail.
+#[derive(Clone, Copy, Debug)]
 pub struct Case<'a> {
     pub name: &'a str,
     pub number: u64,
 }
 
-impl Case<'_> {
-    pub fn holds(self, rt: &impl Abort, holds: bool) {
-        let Case { name, number } = self;
-        assert!(rt; holds, "{name}, {number}");
+/// What a case came to in place of what it is to come to.
+#[derive(Clone, Copy, Debug)]
+pub enum Miss<'a> {
+    /// A fact does not hold.
+    Fact(Case<'a>),
+    /// The run ended so, and was to end otherwise.
+    End {
+        case: Case<'a>,
+        status: Status,
+        want: Status,
+    },
+    /// Other bytes were written.
+    Bytes(Case<'a>),
+    /// Something else was said.
+    Talk(Case<'a>),
+}
+
+impl<'a> Case<'a> {
+    /// A fact holds.
+    pub fn holds(self, holds: bool) -> Result<(), Miss<'a>> {
+        if holds { Ok(()) } else { Err(Miss::Fact(self)) }
     }
 
-    pub fn ends(self, rt: &impl Abort, status: Status, want: Status) {
-        let Case { name, number } = self;
-        assert_eq!(rt; status, want, "{name}, {number}");
+    /// A run ended so.
+    pub fn ends(self, status: Status, want: Status) -> Result<(), Miss<'a>> {
+        if status == want {
+            Ok(())
+        } else {
+            Err(Miss::End {
+                case: self,
+                status,
+                want,
+            })
+        }
     }
 
-    pub fn writes(self, rt: &impl Abort, bytes: &[u8], want: &[u8]) {
-        let Case { name, number } = self;
-        assert_eq!(rt; bytes, want, "{name}, {number}");
+    /// These bytes were written.
+    pub fn writes(self, bytes: &[u8], want: &[u8]) -> Result<(), Miss<'a>> {
+        if bytes == want {
+            Ok(())
+        } else {
+            Err(Miss::Bytes(self))
+        }
     }
 
-    pub fn says(self, rt: &impl Abort, talk: &[TalkEvent], want: &[TalkEvent]) {
-        let Case { name, number } = self;
-        assert_eq!(rt; talk, want, "{name}, {number}");
+    /// This was said.
+    pub fn says(self, talk: &[TalkEvent], want: &[TalkEvent]) -> Result<(), Miss<'a>> {
+        if talk == want {
+            Ok(())
+        } else {
+            Err(Miss::Talk(self))
+        }
     }
 }

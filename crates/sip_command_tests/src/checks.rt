@@ -25,10 +25,12 @@ impl Row<'_> {
             name: self.name,
             number: chunk as u64,
         };
-        case.ends(rt, shown.status, self.status);
-        case.holds(rt, exit_code(&shown.status) == self.code);
-        case.writes(rt, shown.report.bytes(), self.report);
-        case.says(rt, shown.peer.talk(), &talk);
+        case.ends(shown.status, self.status).expect(rt, "a case");
+        case.holds(exit_code(&shown.status) == self.code)
+            .expect(rt, "a case");
+        case.writes(shown.report.bytes(), self.report)
+            .expect(rt, "a case");
+        case.says(shown.peer.talk(), &talk).expect(rt, "a case");
         Ok(())
     }
 }

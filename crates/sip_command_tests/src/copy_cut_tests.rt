@@ -3,13 +3,13 @@
 use crate::copy_tests::THREE_LINES;
 use crate::cut::{Calls, Cut, check_cuts};
 use crate::frames::{THREE_RECORDS, ZERO_SEED};
-use crate::row::{At, Given, Row};
+use crate::row::{At, Row, RunInput};
 use sip_verifier::Status;
 use std::test::Fail;
 
 const LINES: Row<'static> = Row {
     name: "lines s 2",
-    given: Given {
+    given: RunInput {
         words: "lines s 2",
         stream: &THREE_RECORDS,
         seed: &ZERO_SEED,
@@ -24,7 +24,7 @@ const LINES: Row<'static> = Row {
 
 const TEXT: Row<'static> = Row {
     name: "lines text:s 2",
-    given: Given {
+    given: RunInput {
         words: "lines text:s 2",
         stream: THREE_LINES,
         seed: &ZERO_SEED,
@@ -35,7 +35,7 @@ const TEXT: Row<'static> = Row {
 
 const RECORDS: Row<'static> = Row {
     name: "gen 7 3 2",
-    given: Given {
+    given: RunInput {
         words: "gen 7 3 2",
         stream: &THREE_RECORDS,
         seed: &ZERO_SEED,

@@ -1,7 +1,7 @@
 // The commands that copy a stream.
 
 use crate::frames::*;
-use crate::row::{Given, Row};
+use crate::row::{Row, RunInput};
 use sip_stream::Why;
 use sip_vector::Side;
 use sip_verifier::Status;
@@ -20,7 +20,7 @@ pub fn copy<'a>(
 ) -> Row<'a> {
     Row {
         name: words,
-        given: Given {
+        given: RunInput {
             words,
             stream,
             seed: &ZERO_SEED,

@@ -88,14 +88,16 @@ impl Cut<'_> {
             number,
         };
         let (said, written) = (shown.peer.talk(), shown.report.bytes());
-        case.ends(rt, shown.status, fault_of(calls.at));
-        case.holds(rt, exit_code(&shown.status) == 4);
-        case.holds(
-            rt,
-            talk.starts_with(said) && is_between(said.len(), calls.said),
-        );
-        case.holds(rt, self.row.report.starts_with(written));
-        case.holds(rt, self.may_write(calls, number, said.len(), written));
+        case.ends(shown.status, fault_of(calls.at))
+            .expect(rt, "a case");
+        case.holds(exit_code(&shown.status) == 4)
+            .expect(rt, "a case");
+        case.holds(talk.starts_with(said) && is_between(said.len(), calls.said))
+            .expect(rt, "a case");
+        case.holds(self.row.report.starts_with(written))
+            .expect(rt, "a case");
+        case.holds(self.may_write(calls, number, said.len(), written))
+            .expect(rt, "a case");
         Ok(())
     }
 
@@ -116,7 +118,8 @@ impl Cut<'_> {
                 name: self.row.name,
                 number,
             };
-            case.ends(rt, shown.status, self.row.status);
+            case.ends(shown.status, self.row.status)
+                .expect(rt, "a case");
         }
         Ok(())
     }

@@ -2,7 +2,7 @@
 
 use crate::cut::{Calls, Cut, check_cuts};
 use crate::frames::*;
-use crate::row::{At, FIRST_GIVEN, FIRST_RUN, Given, Row, Said};
+use crate::row::{At, FIRST_GIVEN, FIRST_RUN, Row, RunInput, Said};
 use sip_verifier::Status;
 use sip_wire::Reason;
 use std::test::Fail;
@@ -110,7 +110,7 @@ const AT_ONCE: &[Calls<'static>] = &[
 // The root tells that leaf 0 is not 4.
 const REJECTED: Row<'static> = Row {
     name: "a rejection",
-    given: Given {
+    given: RunInput {
         replies: &[&ENTRY_2, &SIBLINGS_4_1, &NO_SIBLINGS],
         ..FIRST_GIVEN
     },

@@ -1,14 +1,14 @@
 // Runs of `verify` that ask for the entries 1 to 2 of (3, 0, 5, 1), with scripted replies.
 
-use crate::faulty::{Behind, Faulty, check_faulty};
+use crate::faulty::{Behind, Faulty, NOTHING_OF_REPLY_1, check_faulty};
 use crate::frames::*;
-use crate::row::{FIRST_GIVEN, FIRST_RUN, Given, Row, Said};
+use crate::row::{FIRST_GIVEN, FIRST_RUN, Row, RunInput, Said};
 use sip_wire::Reason;
 use std::test::Fail;
 
 // The first run, up to its query.
 const ASKED: Row<'static> = Row {
-    given: Given {
+    given: RunInput {
         replies: &[],
         ..FIRST_GIVEN
     },
@@ -202,7 +202,7 @@ const REPLIES: &[Faulty<'static>] = &[
 
 // Reply 0 is taken, and the challenge goes out. The farewell does not.
 const REVEALED: Row<'static> = Row {
-    given: Given {
+    given: RunInput {
         replies: &[&ENTRY_2, &SIBLINGS_3_1],
         ..FIRST_GIVEN
     },
@@ -216,14 +216,7 @@ const REVEALED: Row<'static> = Row {
 };
 
 const LATER_REPLIES: &[Faulty<'static>] = &[
-    Faulty {
-        name: "nothing of reply 1 comes",
-        replies: &[],
-        then: &[Said::Ended],
-        round: 1,
-        reason: Reason::Closed,
-        line: b"rejected query 1 round 1 Closed\n",
-    },
+    NOTHING_OF_REPLY_1,
     Faulty {
         name: "two bytes of reply 1 come",
         replies: &[&PART_OF_NO_SIBLINGS],

@@ -1,6 +1,6 @@
 // Replies with a fault, behind what an honest helper said.
 
-use crate::row::{Given, Row, Said, bytes_of};
+use crate::row::{Row, RunInput, Said, bytes_of};
 use sip_verifier::Status;
 use sip_wire::Reason;
 use std::alloc::Global;
@@ -18,6 +18,16 @@ pub struct Faulty<'a> {
     pub reason: Reason,
     pub line: &'a [u8],
 }
+
+// The link ends where reply 1 of query 1 is due.
+pub const NOTHING_OF_REPLY_1: Faulty<'static> = Faulty {
+    name: "nothing of reply 1 comes",
+    replies: &[],
+    then: &[Said::Ended],
+    round: 1,
+    reason: Reason::Closed,
+    line: b"rejected query 1 round 1 Closed\n",
+};
 
 // Runs behind what was said and written before, where this query is open.
 #[derive(Clone, Copy)]
@@ -38,7 +48,7 @@ impl Faulty<'_> {
         report.extend_from_slice(self.line)?;
         let rejected = Row {
             name: self.name,
-            given: Given {
+            given: RunInput {
                 replies: &[&replies],
                 ..before.given
             },

@@ -94,6 +94,26 @@ pub const WIDE_RECORDS_CUT_SHORT: [u8; 50] = [
 
 pub const END_STREAM: [u8; 3] = [0x03, 0, 0];
 
+/// All that is said of the stream of the three records: the opening, the updates, the end.
+pub const STREAM_OF_THREE: [u8; 52] = [
+    0x01, 0, 2, 1, 2, // version 1 at depth 2
+    0x02, 0, 0x29, 0, 3, // three records
+    0, 0, 0, 0, 0, 0, 0, 0, 0, 0, 0, 0, 3, // item 0
+    0, 0, 0, 0, 2, 0, 0, 0, 0, 0, 0, 0, 5, // item 2
+    0, 0, 0, 0, 3, 0, 0, 0, 0, 0, 0, 0, 1, // item 3
+    0x03, 0, 0, // the end
+];
+
+/// The same in version 2.
+pub const STREAM_OF_THREE_WIDE: [u8; 64] = [
+    0x01, 0, 2, 2, 2, // version 2 at depth 2
+    0x02, 0, 0x35, 0, 3, // three records
+    0, 0, 0, 0, 0, 0, 0, 0, 0, 0, 0, 0, 0, 0, 0, 0, 3, // item 0
+    0, 0, 0, 0, 0, 0, 0, 0, 2, 0, 0, 0, 0, 0, 0, 0, 5, // item 2
+    0, 0, 0, 0, 0, 0, 0, 0, 3, 0, 0, 0, 0, 0, 0, 0, 1, // item 3
+    0x03, 0, 0, // the end
+];
+
 pub const SUB_1_2: [u8; 12] = [0x04, 0, 9, 1, 0, 0, 0, 1, 0, 0, 0, 2];
 
 pub const SUB_0_3: [u8; 12] = [0x04, 0, 9, 1, 0, 0, 0, 0, 0, 0, 0, 3];

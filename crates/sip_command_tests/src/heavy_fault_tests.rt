@@ -4,11 +4,11 @@ use crate::checks::check_rows;
 use crate::faulty::{Behind, Faulty, check_faulty};
 use crate::frames::*;
 use crate::heavy_frames::*;
-use crate::row::{FIRST_GIVEN, FIRST_RUN, Given, Row, Said};
+use crate::row::{FIRST_GIVEN, FIRST_RUN, Row, RunInput, Said};
 use sip_wire::Reason;
 use std::test::Fail;
 
-const ASKING: Given<'static> = Given {
+const ASKING: RunInput<'static> = RunInput {
     words: "verify s seed a b - 2 heavy:0:4",
     replies: &[&LEAVES_5_1, &LEVEL_END, &NODE_0_AT_ZERO_SEED, &LEVEL_END],
     ..FIRST_GIVEN
@@ -38,7 +38,7 @@ const HITTERS: Row<'static> = Row {
 };
 
 // The same up to its query.
-const NOTHING_HEARD: Given<'static> = Given {
+const NOTHING_HEARD: RunInput<'static> = RunInput {
     replies: &[],
     ..ASKING
 };
@@ -120,7 +120,7 @@ const LEAVES: &[Faulty<'static>] = &[
 
 // At least 9 is one entry at most, so that two leaves are shown at most.
 const ASKED_FOR_9: Row<'static> = Row {
-    given: Given {
+    given: RunInput {
         words: "verify s seed a b - 2 heavy:0:9",
         ..NOTHING_HEARD
     },
@@ -145,7 +145,7 @@ const THREE_LEAVES: &[Faulty<'static>] = &[Faulty {
 
 // Reply 0 has no leaf, and is taken.
 const NO_LEAF: Row<'static> = Row {
-    given: Given {
+    given: RunInput {
         replies: &[&LEVEL_END],
         ..ASKING
     },
@@ -174,7 +174,7 @@ const NODES_BEHIND_NO_LEAF: &[Faulty<'static>] = &[
 
 // Reply 0 is taken, and the challenge goes out. The farewell does not.
 const REVEALED: Row<'static> = Row {
-    given: Given {
+    given: RunInput {
         replies: &[&LEAVES_5_1, &LEVEL_END],
         ..ASKING
     },

@@ -4,7 +4,7 @@
 use crate::checks::check_rows;
 use crate::frames::*;
 use crate::heavy_frames::*;
-use crate::row::{FIRST_GIVEN, FIRST_RUN, Given, Row, Said};
+use crate::row::{FIRST_GIVEN, FIRST_RUN, Row, RunInput, Said};
 use sip_verifier::Status;
 use std::test::Fail;
 
@@ -12,7 +12,7 @@ use std::test::Fail;
 const NOT_ASKED: &[Row<'static>] = &[
     Row {
         name: "9 is less than 10",
-        given: Given {
+        given: RunInput {
             words: "verify s seed a b - 2 heavy:0:10",
             replies: &[],
             ..FIRST_GIVEN
@@ -29,7 +29,7 @@ const NOT_ASKED: &[Row<'static>] = &[
     },
     Row {
         name: "a share of nothing",
-        given: Given {
+        given: RunInput {
             words: "verify s seed a b - 2 share:0:1:2",
             stream: &[],
             replies: &[],
@@ -45,7 +45,7 @@ const NOT_ASKED: &[Row<'static>] = &[
 // No entry is all of the total. The threshold is the total itself, so the query is asked.
 const ASKED: &[Row<'static>] = &[Row {
     name: "no entry is 9",
-    given: Given {
+    given: RunInput {
         words: "verify s seed a b - 2 share:0:1:1",
         replies: &[&LEVEL_END, &WIDE_NODES_AT_ZERO_SEED, &LEVEL_END],
         ..FIRST_GIVEN
@@ -84,7 +84,7 @@ const TOO_WIDE: Row<'static> = Row {
     then: &[],
 };
 
-const ONE_OF_65537: Given<'static> = Given {
+const ONE_OF_65537: RunInput<'static> = RunInput {
     words: "",
     stream: b"0 0 65537\n",
     seed: &ZERO_SEED,
@@ -94,7 +94,7 @@ const ONE_OF_65537: Given<'static> = Given {
 const WIDE: &[Row<'static>] = &[
     Row {
         name: "heavy:0:1 is too wide",
-        given: Given {
+        given: RunInput {
             words: "verify text:s seed a b - 1 heavy:0:1",
             ..ONE_OF_65537
         },
@@ -102,7 +102,7 @@ const WIDE: &[Row<'static>] = &[
     },
     Row {
         name: "share:0:1:65537 is too wide",
-        given: Given {
+        given: RunInput {
             words: "verify text:s seed a b - 1 share:0:1:65537",
             ..ONE_OF_65537
         },
@@ -115,7 +115,7 @@ const WIDE: &[Row<'static>] = &[
     },
     Row {
         name: "heavy:0:1 is too wide before another query",
-        given: Given {
+        given: RunInput {
             words: "verify text:s seed a b - 1 heavy:0:1 sub:0:1",
             ..ONE_OF_65537
         },

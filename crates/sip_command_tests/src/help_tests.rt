@@ -2,7 +2,7 @@
 
 use crate::checks::check_rows;
 use crate::frames::*;
-use crate::row::{Given, HELPING, Row, SERVED, Said};
+use crate::row::{HELPING, OUT_OF_TURN, Row, RunInput, SERVED, Said};
 use crate::sum_frames::*;
 use sip_verifier::Status;
 use std::test::Fail;
@@ -11,23 +11,12 @@ use std::test::Fail;
 const TALKS: &[Row<'static>] = &[
     Row {
         name: "a whole talk",
-        given: Given {
-            replies: &[
-                &OPEN_2,
-                &UPDATES_OF_THREE,
-                &THREE_RECORDS,
-                &END_STREAM,
-                &SUB_1_2,
-                &REVEAL_OF_2,
-                &BYE,
-            ],
+        given: RunInput {
+            replies: &[&STREAM_OF_THREE, &SUB_1_2, &REVEAL_OF_2, &BYE],
             ..HELPING
         },
         then: &[
-            Said::In(&OPEN_2),
-            Said::In(&UPDATES_OF_THREE),
-            Said::In(&THREE_RECORDS),
-            Said::In(&END_STREAM),
+            Said::In(&STREAM_OF_THREE),
             Said::In(&SUB_1_2),
             Said::Out(&ENTRY_2),
             Said::Out(&SIBLINGS_3_1),
@@ -39,24 +28,18 @@ const TALKS: &[Row<'static>] = &[
     },
     Row {
         name: "the verifier leaves after the stream",
-        given: Given {
-            replies: &[&OPEN_2, &UPDATES_OF_THREE, &THREE_RECORDS, &END_STREAM],
+        given: RunInput {
+            replies: &[&STREAM_OF_THREE],
             ..HELPING
         },
         status: Status::PeerClosed,
         code: 4,
-        then: &[
-            Said::In(&OPEN_2),
-            Said::In(&UPDATES_OF_THREE),
-            Said::In(&THREE_RECORDS),
-            Said::In(&END_STREAM),
-            Said::Ended,
-        ],
+        then: &[Said::In(&STREAM_OF_THREE), Said::Ended],
         ..SERVED
     },
     Row {
         name: "bytes that are no frame",
-        given: Given {
+        given: RunInput {
             replies: &[&NO_FRAME],
             ..HELPING
         },
@@ -67,7 +50,7 @@ const TALKS: &[Row<'static>] = &[
     },
     Row {
         name: "a challenge that no query is open for",
-        given: Given {
+        given: RunInput {
             replies: &[&OPEN_2, &REVEAL_OF_2],
             ..HELPING
         },
@@ -86,23 +69,12 @@ const TALKS: &[Row<'static>] = &[
 const TWO_VERSIONS: &[Row<'static>] = &[
     Row {
         name: "a whole talk in version 2",
-        given: Given {
-            replies: &[
-                &OPEN_2_WIDE,
-                &UPDATES_OF_THREE_WIDE,
-                &THREE_WIDE_RECORDS,
-                &END_STREAM,
-                &SUB_1_2_WIDE,
-                &REVEAL_OF_2,
-                &BYE,
-            ],
+        given: RunInput {
+            replies: &[&STREAM_OF_THREE_WIDE, &SUB_1_2_WIDE, &REVEAL_OF_2, &BYE],
             ..HELPING
         },
         then: &[
-            Said::In(&OPEN_2_WIDE),
-            Said::In(&UPDATES_OF_THREE_WIDE),
-            Said::In(&THREE_WIDE_RECORDS),
-            Said::In(&END_STREAM),
+            Said::In(&STREAM_OF_THREE_WIDE),
             Said::In(&SUB_1_2_WIDE),
             Said::Out(&ENTRY_2_WIDE),
             Said::Out(&SIBLINGS_3_1),
@@ -114,7 +86,7 @@ const TWO_VERSIONS: &[Row<'static>] = &[
     },
     Row {
         name: "depth 33 is none of version 1",
-        given: Given {
+        given: RunInput {
             replies: &[&OPEN_33],
             ..HELPING
         },
@@ -125,22 +97,16 @@ const TWO_VERSIONS: &[Row<'static>] = &[
     },
     Row {
         name: "a query of version 2 in version 1",
-        given: Given {
+        given: RunInput {
             replies: &[&OPEN_2, &END_STREAM, &SUB_1_2_WIDE],
             ..HELPING
         },
-        status: Status::BadFrame { offset: 8 },
-        code: 3,
-        then: &[
-            Said::In(&OPEN_2),
-            Said::In(&END_STREAM),
-            Said::In(&WIDE_SUB_HEADER),
-        ],
-        ..SERVED
+        then: &[Said::In(&WIDE_SUB_HEADER)],
+        ..OUT_OF_TURN
     },
     Row {
         name: "a query of version 1 in version 2",
-        given: Given {
+        given: RunInput {
             replies: &[&OPEN_2_WIDE, &END_STREAM, &SUB_1_2],
             ..HELPING
         },
@@ -155,7 +121,7 @@ const TWO_VERSIONS: &[Row<'static>] = &[
     },
     Row {
         name: "a share of nothing",
-        given: Given {
+        given: RunInput {
             replies: &[&OPEN_2_WIDE, &END_STREAM, &HALF, &REVEAL_OF_2, &BYE],
             ..HELPING
         },
@@ -178,7 +144,7 @@ const TWO_VERSIONS: &[Row<'static>] = &[
 const SUMS: &[Row<'static>] = &[
     Row {
         name: "three sums",
-        given: Given {
+        given: RunInput {
             replies: &[
                 &OPEN_2,
                 &UPDATES_OF_SIX,
@@ -222,23 +188,12 @@ const SUMS: &[Row<'static>] = &[
     },
     Row {
         name: "a sum in version 2",
-        given: Given {
-            replies: &[
-                &OPEN_2_WIDE,
-                &UPDATES_OF_THREE_WIDE,
-                &THREE_WIDE_RECORDS,
-                &END_STREAM,
-                &RANGE_1_3_WIDE,
-                &REVEAL_OF_2,
-                &BYE,
-            ],
+        given: RunInput {
+            replies: &[&STREAM_OF_THREE_WIDE, &RANGE_1_3_WIDE, &REVEAL_OF_2, &BYE],
             ..HELPING
         },
         then: &[
-            Said::In(&OPEN_2_WIDE),
-            Said::In(&UPDATES_OF_THREE_WIDE),
-            Said::In(&THREE_WIDE_RECORDS),
-            Said::In(&END_STREAM),
+            Said::In(&STREAM_OF_THREE_WIDE),
             Said::In(&RANGE_1_3_WIDE),
             Said::Out(&CLAIM_6),
             Said::Out(&ENTRIES_1),
@@ -250,7 +205,7 @@ const SUMS: &[Row<'static>] = &[
     },
     Row {
         name: "a sum before the stream has ended",
-        given: Given {
+        given: RunInput {
             replies: &[&OPEN_2, &F2],
             ..HELPING
         },
@@ -261,19 +216,12 @@ const SUMS: &[Row<'static>] = &[
     },
     Row {
         name: "a sum up to item 4 of 4",
-        given: Given {
+        given: RunInput {
             replies: &[&OPEN_2, &END_STREAM, &RANGE_1_4],
             ..HELPING
         },
-        status: Status::BadFrame { offset: 8 },
-        code: 3,
-        then: &[
-            Said::In(&OPEN_2),
-            Said::In(&END_STREAM),
-            Said::In(&RANGE_1_4),
-            Said::Out(&REFUSE_4),
-        ],
-        ..SERVED
+        then: &[Said::In(&RANGE_1_4), Said::Out(&REFUSE_4)],
+        ..OUT_OF_TURN
     },
 ];
 
@@ -283,23 +231,12 @@ const SUMS: &[Row<'static>] = &[
 const HEAVY_ENTRIES: &[Row<'static>] = &[
     Row {
         name: "at least 4",
-        given: Given {
-            replies: &[
-                &OPEN_2,
-                &UPDATES_OF_THREE,
-                &THREE_RECORDS,
-                &END_STREAM,
-                &HEAVY_4,
-                &REVEAL_OF_2,
-                &BYE,
-            ],
+        given: RunInput {
+            replies: &[&STREAM_OF_THREE, &HEAVY_4, &REVEAL_OF_2, &BYE],
             ..HELPING
         },
         then: &[
-            Said::In(&OPEN_2),
-            Said::In(&UPDATES_OF_THREE),
-            Said::In(&THREE_RECORDS),
-            Said::In(&END_STREAM),
+            Said::In(&STREAM_OF_THREE),
             Said::In(&HEAVY_4),
             Said::Out(&LEAVES_5_1),
             Said::Out(&LEVEL_END),
@@ -312,7 +249,7 @@ const HEAVY_ENTRIES: &[Row<'static>] = &[
     },
     Row {
         name: "before the stream has ended",
-        given: Given {
+        given: RunInput {
             replies: &[&OPEN_2, &HEAVY_4],
             ..HELPING
         },
@@ -323,7 +260,7 @@ const HEAVY_ENTRIES: &[Row<'static>] = &[
     },
     Row {
         name: "while a query is open",
-        given: Given {
+        given: RunInput {
             replies: &[&OPEN_2, &END_STREAM, &SUB_0_3, &HEAVY_4],
             ..HELPING
         },
@@ -341,14 +278,12 @@ const HEAVY_ENTRIES: &[Row<'static>] = &[
     },
     Row {
         name: "a share in version 1",
-        given: Given {
+        given: RunInput {
             replies: &[&OPEN_2, &END_STREAM, &HALF],
             ..HELPING
         },
-        status: Status::BadFrame { offset: 8 },
-        code: 3,
-        then: &[Said::In(&OPEN_2), Said::In(&END_STREAM), Said::In(&HALF)],
-        ..SERVED
+        then: &[Said::In(&HALF)],
+        ..OUT_OF_TURN
     },
 ];
 

@@ -2,6 +2,7 @@
 //! bytes, worked runs as tables, and what the crates of other tests of commands take from here.
 #![tactic(auto)]
 
+pub mod case;
 pub mod frames;
 pub mod heavy_frames;
 pub mod laws;
@@ -13,8 +14,6 @@ pub mod sum_frames;
 
 pub use memory::run_in_memory;
 
-#[cfg(test)]
-mod case;
 #[cfg(test)]
 mod checks;
 #[cfg(test)]

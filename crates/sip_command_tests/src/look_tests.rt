@@ -4,13 +4,13 @@
 use crate::checks::check_rows;
 use crate::frames::*;
 use crate::question_frames::*;
-use crate::row::{self, Given, Row, Said};
+use crate::row::{self, LEFT, OUT_OF_TURN, Row, RunInput, Said};
 use sip_verifier::Status;
 use sip_wire::Reason;
 use std::test::Fail;
 
 // The numbers 3, 0, 5, 1, whose entry from 1 on is 5 at item 2.
-const GIVEN: Given<'static> = Given {
+const GIVEN: RunInput<'static> = RunInput {
     words: "lookup s seed a b 2 succ:1",
     stream: &THREE_RECORDS,
     seed: &ZERO_SEED,
@@ -45,7 +45,7 @@ const ACCEPTED: &[Row<'static>] = &[
     SUCCESSOR,
     Row {
         name: "three lookups",
-        given: Given {
+        given: RunInput {
             words: "lookup s seed a b 2 index:1 pred:1 succ:1",
             replies: &[
                 &FOUND_1,
@@ -96,7 +96,7 @@ const ACCEPTED: &[Row<'static>] = &[
     },
     Row {
         name: "no entry up to 3",
-        given: Given {
+        given: RunInput {
             words: "lookup s seed a b 2 pred:3",
             stream: &[],
             replies: &[&FOUND_NONE, &NO_SIBLINGS, &NO_SIBLINGS],
@@ -124,7 +124,7 @@ const ACCEPTED: &[Row<'static>] = &[
 const REJECTED: &[Row<'static>] = &[
     Row {
         name: "a place below the item",
-        given: Given {
+        given: RunInput {
             replies: &[&FOUND_0],
             ..GIVEN
         },
@@ -140,7 +140,7 @@ const REJECTED: &[Row<'static>] = &[
     },
     Row {
         name: "another entry is nearer",
-        given: Given {
+        given: RunInput {
             replies: &[&FOUND_3, &ENTRIES_2_3, &LEFT_SIBLING_3, &NO_SIBLINGS],
             ..GIVEN
         },
@@ -163,7 +163,7 @@ const REJECTED: &[Row<'static>] = &[
     },
     Row {
         name: "an entry from 1 on, and none was found",
-        given: Given {
+        given: RunInput {
             replies: &[&FOUND_NONE, &ENTRIES_2_3, &LEFT_SIBLING_3, &NO_SIBLINGS],
             ..GIVEN
         },
@@ -186,7 +186,7 @@ const REJECTED: &[Row<'static>] = &[
     },
     Row {
         name: "none was found, and yet there is an index",
-        given: Given {
+        given: RunInput {
             replies: &[&FOUND_NONE_AT_1],
             ..GIVEN
         },
@@ -202,7 +202,7 @@ const REJECTED: &[Row<'static>] = &[
     },
     Row {
         name: "the helper has no memory",
-        given: Given {
+        given: RunInput {
             replies: &[&REFUSE_1],
             ..GIVEN
         },
@@ -218,7 +218,7 @@ const REJECTED: &[Row<'static>] = &[
     },
     Row {
         name: "the helper leaves",
-        given: Given {
+        given: RunInput {
             replies: &[&FOUND_2],
             ..GIVEN
         },
@@ -234,7 +234,7 @@ const REJECTED: &[Row<'static>] = &[
     },
 ];
 
-const HELPING: Given<'static> = Given {
+const HELPING: RunInput<'static> = RunInput {
     words: "helplook from to",
     ..row::HELPING
 };
@@ -247,24 +247,12 @@ const SERVED: Row<'static> = Row {
 const TALKS: &[Row<'static>] = &[
     Row {
         name: "a whole talk",
-        given: Given {
-            replies: &[
-                &OPEN_2,
-                &UPDATES_OF_THREE,
-                &THREE_RECORDS,
-                &END_STREAM,
-                &ASK_SUCC_1,
-                &SUB_1_2,
-                &REVEAL_OF_2,
-                &END,
-            ],
+        given: RunInput {
+            replies: &[&STREAM_OF_THREE, &ASK_SUCC_1, &SUB_1_2, &REVEAL_OF_2, &END],
             ..HELPING
         },
         then: &[
-            Said::In(&OPEN_2),
-            Said::In(&UPDATES_OF_THREE),
-            Said::In(&THREE_RECORDS),
-            Said::In(&END_STREAM),
+            Said::In(&STREAM_OF_THREE),
             Said::In(&ASK_SUCC_1),
             Said::Out(&FOUND_2),
             Said::In(&SUB_1_2),
@@ -278,12 +266,9 @@ const TALKS: &[Row<'static>] = &[
     },
     Row {
         name: "a whole talk in version 2",
-        given: Given {
+        given: RunInput {
             replies: &[
-                &OPEN_2_WIDE,
-                &UPDATES_OF_THREE_WIDE,
-                &THREE_WIDE_RECORDS,
-                &END_STREAM,
+                &STREAM_OF_THREE_WIDE,
                 &ASK_SUCC_1,
                 &SUB_1_2_WIDE,
                 &REVEAL_OF_2,
@@ -292,10 +277,7 @@ const TALKS: &[Row<'static>] = &[
             ..HELPING
         },
         then: &[
-            Said::In(&OPEN_2_WIDE),
-            Said::In(&UPDATES_OF_THREE_WIDE),
-            Said::In(&THREE_WIDE_RECORDS),
-            Said::In(&END_STREAM),
+            Said::In(&STREAM_OF_THREE_WIDE),
             Said::In(&ASK_SUCC_1),
             Said::Out(&FOUND_2),
             Said::In(&SUB_1_2_WIDE),
@@ -309,77 +291,48 @@ const TALKS: &[Row<'static>] = &[
     },
     Row {
         name: "the verifier leaves where a lookup is due",
-        given: Given {
+        given: RunInput {
             replies: &[&OPEN_2, &END_STREAM],
             ..HELPING
         },
-        status: Status::PeerClosed,
-        code: 4,
-        then: &[Said::In(&OPEN_2), Said::In(&END_STREAM), Said::Ended],
-        ..SERVED
+        ..LEFT
     },
     Row {
         name: "item 4 is none of 4",
-        given: Given {
+        given: RunInput {
             replies: &[&OPEN_2, &END_STREAM, &ASK_INDEX_4],
             ..HELPING
         },
-        status: Status::BadFrame { offset: 8 },
-        code: 3,
-        then: &[
-            Said::In(&OPEN_2),
-            Said::In(&END_STREAM),
-            Said::In(&ASK_INDEX_4),
-            Said::Out(&REFUSE_4),
-        ],
-        ..SERVED
+        then: &[Said::In(&ASK_INDEX_4), Said::Out(&REFUSE_4)],
+        ..OUT_OF_TURN
     },
     Row {
         name: "code 4 is none",
-        given: Given {
+        given: RunInput {
             replies: &[&OPEN_2, &END_STREAM, &ASK_CODE_4],
             ..HELPING
         },
-        status: Status::BadFrame { offset: 8 },
-        code: 3,
-        then: &[
-            Said::In(&OPEN_2),
-            Said::In(&END_STREAM),
-            Said::In(&ASK_CODE_4),
-            Said::Out(&REFUSE_4),
-        ],
-        ..SERVED
+        then: &[Said::In(&ASK_CODE_4), Said::Out(&REFUSE_4)],
+        ..OUT_OF_TURN
     },
     Row {
         name: "a moment where a lookup is due",
-        given: Given {
+        given: RunInput {
             replies: &[&OPEN_2, &END_STREAM, &ASK_THIRD],
             ..HELPING
         },
-        status: Status::BadFrame { offset: 8 },
-        code: 3,
-        then: &[
-            Said::In(&OPEN_2),
-            Said::In(&END_STREAM),
-            Said::In(&ASK_MOMENT_HEADER),
-        ],
-        ..SERVED
+        then: &[Said::In(&ASK_MOMENT_HEADER)],
+        ..OUT_OF_TURN
     },
     Row {
         name: "a lookup where a query is due",
-        given: Given {
+        given: RunInput {
             words: "help from to",
             replies: &[&OPEN_2, &END_STREAM, &ASK_SUCC_1],
             ..HELPING
         },
-        status: Status::BadFrame { offset: 8 },
-        code: 3,
-        then: &[
-            Said::In(&OPEN_2),
-            Said::In(&END_STREAM),
-            Said::In(&ASK_HEADER),
-        ],
-        ..SERVED
+        then: &[Said::In(&ASK_HEADER)],
+        ..OUT_OF_TURN
     },
 ];
 

@@ -78,8 +78,8 @@ fn check_made(rt: &impl Abort, alloc: Global, rows: &[(&str, &[u8])]) -> Result<
 
 fn writes_made(rt: &impl Abort, (status, report): (Status, MemorySink), name: &str, want: &[u8]) {
     let case = Case { name, number: 0 };
-    case.ends(rt, status, Status::Wrote);
-    case.writes(rt, report.bytes(), want);
+    case.ends(status, Status::Wrote).expect(rt, "a case");
+    case.writes(report.bytes(), want).expect(rt, "a case");
 }
 
 #[test]
@@ -113,10 +113,13 @@ fn check_long(
         name: words,
         number: 1000,
     };
-    case.ends(rt, status, Status::Wrote);
-    case.ends(rt, status_at_once, Status::Wrote);
-    case.holds(rt, (report.bytes().len(), sum(report.bytes())) == want);
-    case.writes(rt, at_once.bytes(), report.bytes());
+    case.ends(status, Status::Wrote).expect(rt, "a case");
+    case.ends(status_at_once, Status::Wrote)
+        .expect(rt, "a case");
+    case.holds((report.bytes().len(), sum(report.bytes())) == want)
+        .expect(rt, "a case");
+    case.writes(at_once.bytes(), report.bytes())
+        .expect(rt, "a case");
     Ok(report)
 }
 
@@ -181,10 +184,9 @@ fn long_streams(rt: HostRuntime) -> Result<(), Fail> {
         number: 1000,
     };
     case.holds(
-        &rt,
         lines.starts_with(b"0 532219 8\n1 991056 3\n1 367341 2\n0 1 5\n")
             && lines.ends_with(b"\n0 678910 7\n"),
-    );
+    ).expect(&rt, "a case");
     check_blocks(&rt, alloc, records)?;
     copy("lines s 20", records, Status::Wrote, 0, lines).check(&rt, alloc)?;
     copy("lines text:s 20", lines, Status::Wrote, 0, lines).check(&rt, alloc)

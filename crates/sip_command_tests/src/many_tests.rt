@@ -4,7 +4,7 @@
 use crate::case::Case;
 use crate::frames::*;
 use crate::ones::{pairs_of_ones, rows_of_ones};
-use crate::row::{Given, Row, Said};
+use crate::row::{Row, RunInput, Said};
 use sip_verifier::Status;
 use sip_wire::Reason;
 use std::alloc::Global;
@@ -61,7 +61,7 @@ fn check_help(rt: &impl Abort, alloc: Global, one_more: &[u8], answer: &[u8]) ->
     let heard = said(alloc, one_more)?;
     let row = Row {
         name: "the whole interval",
-        given: Given {
+        given: RunInput {
             words: "help from to",
             stream: &[],
             seed: &[],
@@ -110,7 +110,7 @@ fn verify_writes_the_most_entries(rt: HostRuntime) -> Result<(), Fail> {
     let stream = rows_of_ones(alloc, MOST_ENTRIES, &[], &[0])?;
     let replies = replies_of_most(alloc)?;
     let line = line_of_most(alloc)?;
-    let given = Given {
+    let given = RunInput {
         words: "verify s seed a b - 17 sub:0:131071",
         stream: &stream,
         seed: &ZERO_SEED,
@@ -121,8 +121,10 @@ fn verify_writes_the_most_entries(rt: HostRuntime) -> Result<(), Fail> {
         name: "the most entries",
         number: 10_000,
     };
-    case.ends(&rt, shown.status, Status::Accepted);
-    case.writes(&rt, shown.report.bytes(), line.as_bytes());
+    case.ends(shown.status, Status::Accepted)
+        .expect(&rt, "a case");
+    case.writes(shown.report.bytes(), line.as_bytes())
+        .expect(&rt, "a case");
     Ok(())
 }
 
@@ -136,7 +138,7 @@ fn verify_rejects_one_entry_more(rt: HostRuntime) -> Result<(), Fail> {
     let replies = ones_and(alloc, &ENTRIES_OF_512, &[], &ENTRY_AND_NO_SIBLINGS)?;
     let row = Row {
         name: "one entry more",
-        given: Given {
+        given: RunInput {
             words: "verify s seed a b - 17 sub:0:131071",
             stream: &stream,
             seed: &ZERO_SEED,

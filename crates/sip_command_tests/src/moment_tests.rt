@@ -4,13 +4,13 @@
 use crate::checks::check_rows;
 use crate::frames::*;
 use crate::question_frames::*;
-use crate::row::{self, Given, Row, Said};
+use crate::row::{self, LEFT, OUT_OF_TURN, Row, RunInput, Said};
 use sip_verifier::Status;
 use sip_wire::Reason;
 use std::test::Fail;
 
 // The numbers 3, 0, 5, 1, whose cubes are 153.
-const GIVEN: Given<'static> = Given {
+const GIVEN: RunInput<'static> = RunInput {
     words: "moments s seed a b 2 moment:0:3",
     stream: &THREE_RECORDS,
     seed: &ZERO_SEED,
@@ -42,7 +42,7 @@ const CUBES: Row<'static> = Row {
 // The eighth power of 181 fits a claim, and that of 182 does not.
 const EIGHTH: Row<'static> = Row {
     name: "the eighth power of 181",
-    given: Given {
+    given: RunInput {
         words: "moments s seed a b 1 moment:0:8",
         stream: &RECORD_OF_181,
         replies: &[&CLAIM_OF_181, &EIGHTH_OF_181],
@@ -65,7 +65,7 @@ const EIGHTH: Row<'static> = Row {
     ],
 };
 
-const OF_182: Given<'static> = Given {
+const OF_182: RunInput<'static> = RunInput {
     words: "moments s seed a b 1 moment:0:8",
     stream: &RECORD_OF_182,
     replies: &[],
@@ -93,7 +93,7 @@ const RUNS: &[Row<'static>] = &[
     TOO_HIGH,
     Row {
         name: "the other side weighs nothing, and the seventh power fits",
-        given: Given {
+        given: RunInput {
             words: "moments s seed a b 1 moment:1:8 moment:0:7 moment:0:8",
             ..OF_182
         },
@@ -102,7 +102,7 @@ const RUNS: &[Row<'static>] = &[
     },
     Row {
         name: "the polynomials of another challenge",
-        given: Given {
+        given: RunInput {
             replies: &[&CLAIM_153, &CUBES_1, &CUBES_2],
             ..GIVEN
         },
@@ -123,7 +123,7 @@ const RUNS: &[Row<'static>] = &[
     },
     Row {
         name: "the helper has no memory",
-        given: Given {
+        given: RunInput {
             replies: &[&REFUSE_1],
             ..GIVEN
         },
@@ -139,7 +139,7 @@ const RUNS: &[Row<'static>] = &[
     },
 ];
 
-const HELPING: Given<'static> = Given {
+const HELPING: RunInput<'static> = RunInput {
     words: "helpmom from to",
     ..row::HELPING
 };
@@ -152,23 +152,12 @@ const SERVED: Row<'static> = Row {
 const TALKS: &[Row<'static>] = &[
     Row {
         name: "a whole talk",
-        given: Given {
-            replies: &[
-                &OPEN_2,
-                &UPDATES_OF_THREE,
-                &THREE_RECORDS,
-                &END_STREAM,
-                &ASK_THIRD,
-                &REVEAL_OF_2,
-                &END,
-            ],
+        given: RunInput {
+            replies: &[&STREAM_OF_THREE, &ASK_THIRD, &REVEAL_OF_2, &END],
             ..HELPING
         },
         then: &[
-            Said::In(&OPEN_2),
-            Said::In(&UPDATES_OF_THREE),
-            Said::In(&THREE_RECORDS),
-            Said::In(&END_STREAM),
+            Said::In(&STREAM_OF_THREE),
             Said::In(&ASK_THIRD),
             Said::Out(&CLAIM_153),
             Said::Out(&CUBES_1),
@@ -180,23 +169,12 @@ const TALKS: &[Row<'static>] = &[
     },
     Row {
         name: "a whole talk in version 2",
-        given: Given {
-            replies: &[
-                &OPEN_2_WIDE,
-                &UPDATES_OF_THREE_WIDE,
-                &THREE_WIDE_RECORDS,
-                &END_STREAM,
-                &ASK_THIRD,
-                &REVEAL_OF_2,
-                &END,
-            ],
+        given: RunInput {
+            replies: &[&STREAM_OF_THREE_WIDE, &ASK_THIRD, &REVEAL_OF_2, &END],
             ..HELPING
         },
         then: &[
-            Said::In(&OPEN_2_WIDE),
-            Said::In(&UPDATES_OF_THREE_WIDE),
-            Said::In(&THREE_WIDE_RECORDS),
-            Said::In(&END_STREAM),
+            Said::In(&STREAM_OF_THREE_WIDE),
             Said::In(&ASK_THIRD),
             Said::Out(&CLAIM_153),
             Said::Out(&CUBES_1),
@@ -208,34 +186,24 @@ const TALKS: &[Row<'static>] = &[
     },
     Row {
         name: "the verifier leaves where a moment is due",
-        given: Given {
+        given: RunInput {
             replies: &[&OPEN_2, &END_STREAM],
             ..HELPING
         },
-        status: Status::PeerClosed,
-        code: 4,
-        then: &[Said::In(&OPEN_2), Said::In(&END_STREAM), Said::Ended],
-        ..SERVED
+        ..LEFT
     },
     Row {
         name: "side 2 is none",
-        given: Given {
+        given: RunInput {
             replies: &[&OPEN_2, &END_STREAM, &ASK_SIDE_2],
             ..HELPING
         },
-        status: Status::BadFrame { offset: 8 },
-        code: 3,
-        then: &[
-            Said::In(&OPEN_2),
-            Said::In(&END_STREAM),
-            Said::In(&ASK_SIDE_2),
-            Said::Out(&REFUSE_4),
-        ],
-        ..SERVED
+        then: &[Said::In(&ASK_SIDE_2), Said::Out(&REFUSE_4)],
+        ..OUT_OF_TURN
     },
     Row {
         name: "a claim has no room for the eighth power of 182",
-        given: Given {
+        given: RunInput {
             replies: &[
                 &OPEN_1,
                 &UPDATES_OF_ONE,
@@ -259,18 +227,12 @@ const TALKS: &[Row<'static>] = &[
     },
     Row {
         name: "a lookup where a moment is due",
-        given: Given {
+        given: RunInput {
             replies: &[&OPEN_2, &END_STREAM, &ASK_SUCC_1],
             ..HELPING
         },
-        status: Status::BadFrame { offset: 8 },
-        code: 3,
-        then: &[
-            Said::In(&OPEN_2),
-            Said::In(&END_STREAM),
-            Said::In(&ASK_HEADER),
-        ],
-        ..SERVED
+        then: &[Said::In(&ASK_HEADER)],
+        ..OUT_OF_TURN
     },
 ];
 

@@ -4,11 +4,11 @@ use crate::checks::check_rows;
 use crate::cut::{Calls, Cut, check_cuts};
 use crate::faulty::{Behind, Faulty, check_faulty};
 use crate::frames::*;
-use crate::row::{At, FIRST_GIVEN, FIRST_RUN, Given, Row, Said};
+use crate::row::{At, FIRST_GIVEN, FIRST_RUN, Row, RunInput, Said};
 use sip_wire::Reason;
 use std::test::Fail;
 
-const ASKING: Given<'static> = Given {
+const ASKING: RunInput<'static> = RunInput {
     words: "verify s seed a b - 2 sub:1:2 sub:0:3 sub:1:2",
     stream: &THREE_RECORDS,
     seed: &ZERO_SEED,
@@ -54,7 +54,7 @@ const ACCEPTED: &[Row<'static>] = &[THREE_QUERIES];
 
 // The same up to the second query.
 const UP_TO_QUERY_2: Row<'static> = Row {
-    given: Given {
+    given: RunInput {
         replies: &[&ENTRY_2, &SIBLINGS_3_1, &NO_SIBLINGS],
         ..ASKING
     },

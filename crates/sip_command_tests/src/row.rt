@@ -11,7 +11,7 @@ use std::test::Fail;
 
 /// What a run is given. Replies are parts that come one after another.
 #[derive(Clone, Copy)]
-pub struct Given<'a> {
+pub struct RunInput<'a> {
     pub words: &'a str,
     pub stream: &'a [u8],
     pub seed: &'a [u8],
@@ -57,7 +57,7 @@ pub enum Said<'a> {
 #[derive(Clone, Copy)]
 pub struct Row<'a> {
     pub name: &'a str,
-    pub given: Given<'a>,
+    pub given: RunInput<'a>,
     pub status: Status,
     pub code: u8,
     pub report: &'a [u8],
@@ -140,7 +140,7 @@ pub fn link(
     Ok(MemoryLink::new(alloc, bytes_of(alloc, replies)?, chunk, fails))
 }
 
-impl Given<'_> {
+impl RunInput<'_> {
     /// Runs it over ports that move at most a chunk in a call.
     pub fn run(&self, alloc: Global, chunk: usize, failing: Option<Failing>) -> Result<Shown, Fail>
         requires { 1 ≤ chunk }
@@ -180,7 +180,7 @@ impl Row<'_> {
 }
 
 /// The leaves 3, 0, 5, 1, of which 1 to 2 are asked for.
-pub const FIRST_GIVEN: Given<'static> = Given {
+pub const FIRST_GIVEN: RunInput<'static> = RunInput {
     words: "verify s seed a b - 2 sub:1:2",
     stream: &THREE_RECORDS,
     seed: &ZERO_SEED,
@@ -210,7 +210,7 @@ pub const FIRST_RUN: Row<'static> = Row {
 };
 
 /// A helper leaves the stream, the seed and the report alone.
-pub const HELPING: Given<'static> = Given {
+pub const HELPING: RunInput<'static> = RunInput {
     words: "help from to",
     stream: &THREE_RECORDS,
     seed: &ZERO_SEED,
@@ -225,4 +225,21 @@ pub const SERVED: Row<'static> = Row {
     report: b"",
     sent: &[],
     then: &[],
+};
+
+/// The frame behind an empty stream over four items is none there.
+pub const OUT_OF_TURN: Row<'static> = Row {
+    status: Status::BadFrame { offset: 8 },
+    code: 3,
+    sent: &[Said::In(&OPEN_2), Said::In(&END_STREAM)],
+    ..SERVED
+};
+
+/// The verifier leaves behind an empty stream over four items.
+pub const LEFT: Row<'static> = Row {
+    status: Status::PeerClosed,
+    code: 4,
+    sent: &[Said::In(&OPEN_2), Said::In(&END_STREAM)],
+    then: &[Said::Ended],
+    ..SERVED
 };

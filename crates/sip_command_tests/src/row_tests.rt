@@ -2,7 +2,7 @@
 
 use crate::checks::check_rows;
 use crate::frames::*;
-use crate::row::{FIRST_GIVEN, FIRST_RUN, Given, Row, Said};
+use crate::row::{FIRST_GIVEN, FIRST_RUN, Row, RunInput, Said};
 use sip_stream::Why;
 use sip_vector::Side;
 use sip_verifier::Status;
@@ -13,7 +13,7 @@ const ACCEPTED: &[Row<'static>] = &[
     FIRST_RUN,
     Row {
         name: "a stream of text",
-        given: Given {
+        given: RunInput {
             words: "verify text:s seed a b - 2 sub:1:2",
             stream: &THREE_LINES,
             ..FIRST_GIVEN
@@ -22,7 +22,7 @@ const ACCEPTED: &[Row<'static>] = &[
     },
     Row {
         name: "a stream of wide records",
-        given: Given {
+        given: RunInput {
             words: "verify wide:s seed a b - 2 sub:1:2",
             stream: &THREE_WIDE_RECORDS,
             ..FIRST_GIVEN
@@ -31,7 +31,7 @@ const ACCEPTED: &[Row<'static>] = &[
     },
     Row {
         name: "a stream of nothing has no entries",
-        given: Given {
+        given: RunInput {
             words: "verify s seed a b - 2 sub:0:3",
             stream: &[],
             seed: &ZERO_SEED,
@@ -54,7 +54,7 @@ const ACCEPTED: &[Row<'static>] = &[
     },
     Row {
         name: "depth 1 has one reply, and no challenge is revealed",
-        given: Given {
+        given: RunInput {
             words: "verify s seed a b - 1 sub:0:1",
             stream: &TWO_RECORDS,
             seed: &ZERO_SEED,
@@ -93,14 +93,14 @@ const BAD: Row<'static> = Row {
 };
 
 // What is given with a stream of records, with one of text, and with one of wide records.
-const RECORDS: Given<'static> = FIRST_GIVEN;
+const RECORDS: RunInput<'static> = FIRST_GIVEN;
 
-const TEXT: Given<'static> = Given {
+const TEXT: RunInput<'static> = RunInput {
     words: "verify text:s seed a b - 2 sub:1:2",
     ..FIRST_GIVEN
 };
 
-const WIDE: Given<'static> = Given {
+const WIDE: RunInput<'static> = RunInput {
     words: "verify wide:s seed a b - 2 sub:1:2",
     ..FIRST_GIVEN
 };
@@ -108,7 +108,7 @@ const WIDE: Given<'static> = Given {
 const BAD_STREAMS: &[Row<'static>] = &[
     Row {
         name: "12 bytes are no record",
-        given: Given {
+        given: RunInput {
             stream: &TWELVE_BYTES,
             ..RECORDS
         },
@@ -120,7 +120,7 @@ const BAD_STREAMS: &[Row<'static>] = &[
     },
     Row {
         name: "item 4 is none of 4",
-        given: Given {
+        given: RunInput {
             stream: &ITEM_4,
             ..RECORDS
         },
@@ -132,7 +132,7 @@ const BAD_STREAMS: &[Row<'static>] = &[
     },
     Row {
         name: "side 2 is none",
-        given: Given {
+        given: RunInput {
             stream: &SIDE_2,
             ..RECORDS
         },
@@ -144,7 +144,7 @@ const BAD_STREAMS: &[Row<'static>] = &[
     },
     Row {
         name: "delta 0 is none",
-        given: Given {
+        given: RunInput {
             stream: &DELTA_0,
             ..RECORDS
         },
@@ -156,7 +156,7 @@ const BAD_STREAMS: &[Row<'static>] = &[
     },
     Row {
         name: "a side weighs 2^30",
-        given: Given {
+        given: RunInput {
             stream: &TOO_HEAVY,
             ..RECORDS
         },
@@ -168,7 +168,7 @@ const BAD_STREAMS: &[Row<'static>] = &[
     },
     Row {
         name: "a record weighs 2^63",
-        given: Given {
+        given: RunInput {
             stream: &LEAST_DELTA,
             ..RECORDS
         },
@@ -180,7 +180,7 @@ const BAD_STREAMS: &[Row<'static>] = &[
     },
     Row {
         name: "a line of two numbers is none",
-        given: Given {
+        given: RunInput {
             stream: b"0 0 3\n0 2\n0 3 1\n",
             ..TEXT
         },
@@ -192,7 +192,7 @@ const BAD_STREAMS: &[Row<'static>] = &[
     },
     Row {
         name: "the last line has no end",
-        given: Given {
+        given: RunInput {
             stream: b"0 0 3\n0 2 5",
             ..TEXT
         },
@@ -204,7 +204,7 @@ const BAD_STREAMS: &[Row<'static>] = &[
     },
     Row {
         name: "item 4 of a line is none of 4",
-        given: Given {
+        given: RunInput {
             stream: b"0 4 3\n",
             ..TEXT
         },
@@ -216,7 +216,7 @@ const BAD_STREAMS: &[Row<'static>] = &[
     },
     Row {
         name: "16 bytes are no wide record",
-        given: Given {
+        given: RunInput {
             stream: &WIDE_RECORDS_CUT_SHORT,
             ..WIDE
         },
@@ -228,7 +228,7 @@ const BAD_STREAMS: &[Row<'static>] = &[
     },
     Row {
         name: "item 2^48 of a wide record is none of 4",
-        given: Given {
+        given: RunInput {
             stream: &ITEM_2_TO_48,
             ..WIDE
         },
@@ -240,7 +240,7 @@ const BAD_STREAMS: &[Row<'static>] = &[
     },
     Row {
         name: "records are no lines",
-        given: Given {
+        given: RunInput {
             stream: &THREE_RECORDS,
             ..TEXT
         },
@@ -268,7 +268,7 @@ const REFUSED: Row<'static> = Row { code: 2, ..SILENT };
 const NOTHING_SAID: &[Row<'static>] = &[
     Row {
         name: "31 bytes are no seed",
-        given: Given {
+        given: RunInput {
             seed: &SHORT_SEED,
             ..FIRST_GIVEN
         },
@@ -276,7 +276,7 @@ const NOTHING_SAID: &[Row<'static>] = &[
     },
     Row {
         name: "verify",
-        given: Given {
+        given: RunInput {
             words: "verify",
             ..FIRST_GIVEN
         },
@@ -285,7 +285,7 @@ const NOTHING_SAID: &[Row<'static>] = &[
     },
     Row {
         name: "verify s seed a b - 2 sub:1:4",
-        given: Given {
+        given: RunInput {
             words: "verify s seed a b - 2 sub:1:4",
             ..FIRST_GIVEN
         },
@@ -294,7 +294,7 @@ const NOTHING_SAID: &[Row<'static>] = &[
     },
     Row {
         name: "verify s seed a b - 2 f2:2",
-        given: Given {
+        given: RunInput {
             words: "verify s seed a b - 2 f2:2",
             ..FIRST_GIVEN
         },
@@ -303,7 +303,7 @@ const NOTHING_SAID: &[Row<'static>] = &[
     },
     Row {
         name: "verify s seed a b - 2 sub:01:2",
-        given: Given {
+        given: RunInput {
             words: "verify s seed a b - 2 sub:01:2",
             ..FIRST_GIVEN
         },
@@ -312,7 +312,7 @@ const NOTHING_SAID: &[Row<'static>] = &[
     },
     Row {
         name: "verify s seed a b - 49 sub:1:2",
-        given: Given {
+        given: RunInput {
             words: "verify s seed a b - 49 sub:1:2",
             ..FIRST_GIVEN
         },
@@ -321,7 +321,7 @@ const NOTHING_SAID: &[Row<'static>] = &[
     },
     Row {
         name: "seventeen queries",
-        given: Given {
+        given: RunInput {
             words: "verify s seed a b - 2 sub:0:0 sub:0:0 sub:0:0 sub:0:0 sub:0:0 sub:0:0 sub:0:0 \
                     sub:0:0 sub:0:0 sub:0:0 sub:0:0 sub:0:0 sub:0:0 sub:0:0 sub:0:0 sub:0:0 \
                     sub:0:0",
@@ -346,7 +346,7 @@ fn worked_runs(rt: HostRuntime) -> Result<(), Fail> {
 const OVER_A_LINK: &[Row<'static>] = &[
     Row {
         name: "words of play",
-        given: Given {
+        given: RunInput {
             words: "play s k mute - 2 sub:1:2",
             ..FIRST_GIVEN
         },
@@ -354,7 +354,7 @@ const OVER_A_LINK: &[Row<'static>] = &[
     },
     Row {
         name: "words of panel",
-        given: Given {
+        given: RunInput {
             words: "panel s k mute,skewed 2 sub:1:2",
             ..FIRST_GIVEN
         },

@@ -1,14 +1,14 @@
 // Runs of `verify` that ask for the sum of the squares of (3, 0, 5, 1), with scripted replies.
 
 use crate::checks::check_rows;
-use crate::faulty::{Behind, Faulty, check_faulty};
+use crate::faulty::{Behind, Faulty, NOTHING_OF_REPLY_1, check_faulty};
 use crate::frames::*;
-use crate::row::{FIRST_GIVEN, FIRST_RUN, Given, Row, Said};
+use crate::row::{FIRST_GIVEN, FIRST_RUN, Row, RunInput, Said};
 use crate::sum_frames::*;
 use sip_wire::Reason;
 use std::test::Fail;
 
-const ASKING: Given<'static> = Given {
+const ASKING: RunInput<'static> = RunInput {
     words: "verify s seed a b - 2 f2:0",
     replies: &[&CLAIM_35, &SQUARES_1, &SQUARES_2_AT_ZERO_SEED],
     ..FIRST_GIVEN
@@ -38,7 +38,7 @@ const SQUARES: Row<'static> = Row {
 
 // The same, up to its query.
 const ASKED: Row<'static> = Row {
-    given: Given {
+    given: RunInput {
         replies: &[],
         ..ASKING
     },
@@ -149,7 +149,7 @@ const FIRST_REPLIES: &[Faulty<'static>] = &[
 
 // Reply 0 is taken, and the challenge goes out. The farewell does not.
 const REVEALED: Row<'static> = Row {
-    given: Given {
+    given: RunInput {
         replies: &[&CLAIM_35, &SQUARES_1],
         ..ASKING
     },
@@ -162,14 +162,7 @@ const REVEALED: Row<'static> = Row {
 };
 
 const LAST_REPLIES: &[Faulty<'static>] = &[
-    Faulty {
-        name: "nothing of reply 1 comes",
-        replies: &[],
-        then: &[Said::Ended],
-        round: 1,
-        reason: Reason::Closed,
-        line: b"rejected query 1 round 1 Closed\n",
-    },
+    NOTHING_OF_REPLY_1,
     Faulty {
         name: "reply 1 has no claim",
         replies: &[&CLAIM_35, &SQUARES_2],

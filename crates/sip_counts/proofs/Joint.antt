@@ -5,21 +5,21 @@ use Rattle.std.proofs.lemmas.List.Elements.{All-cons, All-map, All-nil, All-head
 use Rattle.std.proofs.lemmas.List.Sums.{sum_by-cons}
 use Rattle.sip_counts.specs.Strategies.{Strategy, IsOfBytes}
 use Rattle.sip_counts.specs.Late.{Plan, IsWithin, plan_bounds, seat_of, seats_at}
-use Rattle.sip_counts.specs.Joint.{Asked, in_turn, is_misled, misled, bounds, IsBounded}
+use Rattle.sip_counts.specs.Joint.{CountedQuestion, in_turn, is_misled, misled, bounds, IsBounded}
 use Rattle.sip_counts.proofs.AnyOrder.{few_fooled}
 
 -- the plans of queries in turn have the queries' bounds
-bounds_same : (strategy : Strategy) (queries : List Asked)
+bounds_same : (strategy : Strategy) (queries : List CountedQuestion)
     → plan_bounds (map (in_turn strategy) queries) ≡ bounds queries
 bounds_same strategy [] = refl
 bounds_same strategy (q ∷ queries) = omega (
   arith,
   bounds_same strategy queries,
   sum_by-cons (λ (x : Plan). x.bound) (in_turn strategy q) (map (in_turn strategy) queries),
-  sum_by-cons (λ (x : Asked). x.bound) q queries,
+  sum_by-cons (λ (x : CountedQuestion). x.bound) q queries,
 )
 
-all_within : (p d : ℕ) (strategy : Strategy) → IsOfBytes strategy → (queries : List Asked)
+all_within : (p d : ℕ) (strategy : Strategy) → IsOfBytes strategy → (queries : List CountedQuestion)
     → All (IsBounded p d) queries → (earlier v : List ℕ)
     → All (IsWithin p d) (seats_at d (map (in_turn strategy) queries) earlier v)
 all_within p d strategy bytes [] all earlier v = All-nil (IsWithin p d)
@@ -34,7 +34,7 @@ all_within p d strategy bytes (q ∷ queries) all earlier v =
     (all_within p d strategy bytes queries (All-tail (IsBounded p d) q queries all)
     (earlier ++ take d v) (drop d v))
 
-pub few_misled : (p d : ℕ) (strategy : Strategy) (queries : List Asked) → 0 < d
+pub few_misled : (p d : ℕ) (strategy : Strategy) (queries : List CountedQuestion) → 0 < d
     → IsOfBytes strategy → All (IsBounded p d) queries
     → misled p d strategy queries ≤ bounds queries * p ^ (length queries * d - 1)
 unfolding is_misled
@@ -44,7 +44,7 @@ few_misled p d strategy queries pos bytes all =
     rw (length-map queries (in_turn strategy), bounds_same strategy queries) at few
 
 -- the same of the queries that a function gives
-pub few_misled_of : {X : Type 0} (p d : ℕ) (strategy : Strategy) (query : X → Asked)
+pub few_misled_of : {X : Type 0} (p d : ℕ) (strategy : Strategy) (query : X → CountedQuestion)
     (xs : List X) → 0 < d → IsOfBytes strategy → All (λ x. IsBounded p d (query x)) xs
     → misled p d strategy (map query xs) ≤ bounds (map query xs) * p ^ (length xs * d - 1)
 few_misled_of p d strategy query xs pos bytes all =

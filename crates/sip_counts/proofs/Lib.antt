@@ -1,5 +1,6 @@
 pub mod Sums
 pub mod Vectors
+pub mod EachVector
 pub mod Escapes
 pub mod Roots
 pub mod Differences

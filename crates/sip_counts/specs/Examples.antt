@@ -1,7 +1,8 @@
 -- The tests that the worked counts try.
-use Rattle.std.specs.Prelude.{ℕ, ◌+◌, ◌*◌, ◌%◌, ◌==◌, nat_lt, nat_eq, if◌then◌else◌, Bool, true, false, Option, Some, None, List, [], ◌∷◌, ◌++◌, sum}
+use Rattle.std.specs.Prelude.{ℕ, ◌+◌, ◌*◌, ◌%◌, ◌==◌, nat_lt, nat_eq, if◌then◌else◌, Bool, true}
+use Rattle.std.specs.Prelude.{false, Option, Some, None, List, [], ◌∷◌, ◌++◌, sum}
 use Rattle.std.specs.Cmp.Lexicographic.{pointwise}
-use Rattle.sip_counts.specs.Late.{Asked, Plan, Use, unasked}
+use Rattle.sip_counts.specs.Late.{CountedQuestion, Plan, Use, unasked}
 
 -- (1 - r_1) * (1 - r_2) is 0 modulo 31
 abbrev pub one_is_one : List ℕ → Bool
@@ -19,12 +20,12 @@ is_one_two (x ∷ y ∷ []) = if x == 1 then y == 2 else false
 is_one_two _ = false
 
 -- a query whose wrong answer is accepted where its one challenge is 0
-abbrev pub zero_query : Asked
+abbrev pub zero_query : CountedQuestion
 zero_query =
     record { accepts = λ r all. pointwise nat_eq r (0 ∷ []); is_right = λ all. false; bound = 1 }
 
 -- a query whose wrong answer is accepted where the one reply is the challenge
-abbrev pub guess_query : Asked
+abbrev pub guess_query : CountedQuestion
 guess_query =
     record {
       accepts = λ r all. pointwise (pointwise nat_eq) all (r ∷ []);

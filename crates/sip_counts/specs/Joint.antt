@@ -4,7 +4,7 @@ use Rattle.std.specs.Prelude.{ℕ, ◌*◌, Bool, List, [], ◌++◌, length, ma
 use Rattle.sip_counts.specs.Counts.{counted}
 use Rattle.sip_counts.specs.Late.{Plan, some_fooled}
 use Rattle.sip_counts.specs.Strategies.{Strategy}
-pub use Rattle.sip_counts.specs.Late.{Asked, IsBounded}
+pub use Rattle.sip_counts.specs.Late.{CountedQuestion, IsBounded}
 
 -- the strategy that a joint one is once these challenges are revealed
 abbrev pub after : List ℕ → Strategy → Strategy
@@ -12,7 +12,7 @@ after earlier strategy v = strategy (earlier ++ v)
 
 -- The plan of a query's seat: the query whatever was revealed, and the replies of a joint strategy.
 -- Its key for a reply are all earlier blocks, and the challenges revealed in the seat's own.
-abbrev pub in_turn : Strategy → Asked → Plan
+abbrev pub in_turn : Strategy → CountedQuestion → Plan
 in_turn strategy q = record {
   question = λ earlier later. q;
   strategy = λ earlier later. after earlier strategy;
@@ -20,13 +20,13 @@ in_turn strategy q = record {
 }
 
 -- in a vector of blocks that follows these challenges some query has a wrong answer accepted
-unfoldable pub is_misled : ℕ → Strategy → List Asked → List ℕ → List ℕ → Bool
+unfoldable pub is_misled : ℕ → Strategy → List CountedQuestion → List ℕ → List ℕ → Bool
 is_misled d strategy queries earlier v = some_fooled d (map (in_turn strategy) queries) earlier v
 
 -- how many of the vectors of a block for each query are such
-abbrev pub misled : ℕ → ℕ → Strategy → List Asked → ℕ
+abbrev pub misled : ℕ → ℕ → Strategy → List CountedQuestion → ℕ
 misled p d strategy queries = counted p (is_misled d strategy queries []) (length queries * d)
 
 -- the sum of the bounds
-abbrev pub bounds : List Asked → ℕ
+abbrev pub bounds : List CountedQuestion → ℕ
 bounds queries = sum_by (λ q. q.bound) queries

@@ -7,7 +7,8 @@
 -- revealed of these. Of the seat's own block a reply may depend on what was revealed before it, and
 -- a question on nothing. A plan grants more: all challenges of all other seats. So it need not say
 -- in which order the seats are used, and one count holds for each order.
-use Rattle.std.specs.Prelude.{◌≡◌, ℕ, ◌*◌, ◌-◌, ◌<◌, ◌≤◌, ◌^◌, Bool, true, false, Some, List, [], ◌∷◌, ◌++◌, length, map, take, drop, sum_by, All}
+use Rattle.std.specs.Prelude.{◌≡◌, ℕ, ◌*◌, ◌-◌, ◌<◌, ◌≤◌, ◌^◌, Bool, true, false, Some, List, []}
+use Rattle.std.specs.Prelude.{◌∷◌, ◌++◌, length, map, take, drop, sum_by, All}
 use Rattle.std.specs.List.{list_any}
 use Rattle.sip_counts.specs.Counts.{counted}
 use Rattle.sip_counts.specs.Strategies.{Strategy, IsOfBytes, replies, takes_wrong, fooled}
@@ -16,20 +17,20 @@ use Rattle.sip_counts.specs.Strategies.{Strategy, IsOfBytes, replies, takes_wron
 
 -- a question: which replies are accepted at which challenges of its block, which say the right
 -- answer, and a bound on its count
-pub record Asked : Type 0 where
+pub record CountedQuestion : Type 0 where
   pub accepts : List ℕ → List (List ℕ) → Bool
   pub is_right : List (List ℕ) → Bool
   pub bound : ℕ
 
 -- no strategy has a wrong answer to this question alone accepted at more vectors than its bound
 -- says
-abbrev pub IsBounded : ℕ → ℕ → Asked → Type 0
+abbrev pub IsBounded : ℕ → ℕ → CountedQuestion → Type 0
 IsBounded p d q =
     (strategy : Strategy) → IsOfBytes strategy
     → fooled p d q.accepts q.is_right strategy ≤ q.bound * p ^ (d - 1)
 
 -- what a seat serves that is not used: no replies are accepted
-abbrev pub unasked : Asked
+abbrev pub unasked : CountedQuestion
 unasked = record { accepts = λ block replies. false; is_right = λ replies. false; bound = 0 }
 
 -- ---- plans
@@ -38,7 +39,7 @@ unasked = record { accepts = λ block replies. false; is_right = λ replies. fal
 -- seats behind it.
 pub record Plan : Type 0 where
   -- the question, and with it the stream that it is asked of
-  pub question : List ℕ → List ℕ → Asked
+  pub question : List ℕ → List ℕ → CountedQuestion
   -- what is replied to it, by what is revealed of the seat's own block too
   pub strategy : List ℕ → List ℕ → Strategy
   -- a bound on whatever question it comes to
@@ -47,7 +48,7 @@ pub record Plan : Type 0 where
 -- a seat at given challenges: its block, and what its plan comes to
 pub record Seat : Type 0 where
   pub block : List ℕ
-  pub question : Asked
+  pub question : CountedQuestion
   pub strategy : Strategy
   pub bound : ℕ
 
@@ -102,7 +103,7 @@ plan_bounds plans = sum_by (λ plan. plan.bound) plans
 
 -- what was done with a seat: the question that was asked on it, and the replies that were taken
 pub record Use : Type 0 where
-  pub question : Asked
+  pub question : CountedQuestion
   pub taken : List (List ℕ)
 
 -- The seat's plan led to this use: it gave this question, and replies as was taken. Of a question

@@ -1,6 +1,7 @@
 -- The rounds of a sum-check of any degree, whatever is summed (Cormode, Thaler, Yi, PVLDB 5(1),
 -- section 3). A round polynomial is the list of its coefficients, the constant one first.
-use Rattle.std.specs.Prelude.{◌≡◌, ℕ, ◌+◌, ◌*◌, ◌%◌, ◌<◌, ◌≤◌, ◌==◌, Bool, false, ◌&&◌, List, [], ◌∷◌, ◌++◌, length, sum}
+use Rattle.std.specs.Prelude.{◌≡◌, ℕ, ◌+◌, ◌*◌, ◌%◌, ◌<◌, ◌≤◌, ◌==◌, Bool, false, ◌&&◌, List, []}
+use Rattle.std.specs.Prelude.{◌∷◌, ◌++◌, length, sum}
 use Rattle.sip_field.specs.Polynomial.{polynomial}
 
 -- the value of a round polynomial at x

@@ -1,6 +1,7 @@
 -- What a helper may do: its replies depend on the challenges that were revealed to it, and on what
 -- stays fixed while these vary.
-use Rattle.std.specs.Prelude.{◌≡◌, ℕ, ◌<◌, Bool, false, not, ◌&&◌, nat_eq, Option, Some, None, List, [], ◌∷◌, length, map, take, All}
+use Rattle.std.specs.Prelude.{◌≡◌, ℕ, ◌<◌, Bool, false, not, ◌&&◌, nat_eq, Option, Some, None, List}
+use Rattle.std.specs.Prelude.{[], ◌∷◌, length, map, take, All}
 use Rattle.std.specs.List.{range_with_len}
 use Rattle.std.specs.Map.{lookup}
 use Rattle.std.specs.Cmp.Lexicographic.{pointwise}

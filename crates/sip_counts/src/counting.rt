@@ -1,7 +1,8 @@
 //! Laws of the count of challenge vectors. These functions do nothing: each contract is a fact that
 //! holds.
 
-ghost use Rattle.std.specs.Prelude.{◌≡◌, ℕ, ◌+◌, ◌*◌, ◌-◌, ◌<◌, ◌≤◌, ◌^◌, if◌then◌else◌, Bool, true, not, List, [], ◌∷◌, ◌++◌, length, All};
+ghost use Rattle.std.specs.Prelude.{◌≡◌, ℕ, ◌+◌, ◌*◌, ◌-◌, ◌<◌, ◌≤◌, ◌^◌, if◌then◌else◌, Bool};
+ghost use Rattle.std.specs.Prelude.{true, not, List, [], ◌∷◌, ◌++◌, length, All};
 ghost use Rattle.sip_counts.specs.Counts.{sum_below, count_below, counted, counted_from};
 
 /// The count at a prefix: 1 or 0 where no challenge is left, and else the sum of the counts at the

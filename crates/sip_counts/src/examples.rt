@@ -1,12 +1,16 @@
 //! Counts worked out one by one. These functions do nothing: each contract holds by computation.
 #![tactic(auto, unfolding(crate::specs::Counts::sum_below, crate::specs::Counts::count_below, crate::specs::Counts::counted_from, crate::specs::Counts::counted, crate::specs::Joint::is_misled, crate::specs::Late::some_fooled, crate::specs::Strategies::takes_wrong))]
 
-ghost use Rattle.std.specs.Prelude.{◌≡◌, ℕ, ◌+◌, ◌*◌, ◌-◌, ◌^◌, ◌%◌, ◌==◌, not, true, false, Some, List, [], ◌∷◌, Any};
+ghost use Rattle.std.specs.Prelude.{◌≡◌, ℕ, ◌+◌, ◌*◌, ◌-◌, ◌^◌, ◌%◌, ◌==◌, not, true, false, Some};
+ghost use Rattle.std.specs.Prelude.{List, [], ◌∷◌, Any};
 ghost use Rattle.sip_field.specs.Polynomial.{polynomial};
 ghost use Rattle.sip_counts.specs.Counts.{count_below, counted, counted_from};
-ghost use Rattle.sip_counts.specs.Examples.{all_above_one, crossed, guess_query, is_one_two, one_is_one, replies_by, said_two, two_replies, used_at_zero, zero_query};
+ghost use Rattle.sip_counts.specs.Examples.{all_above_one, crossed, guess_query, is_one_two};
+ghost use Rattle.sip_counts.specs.Examples.{one_is_one, replies_by, said_two, two_replies};
+ghost use Rattle.sip_counts.specs.Examples.{used_at_zero, zero_query};
 ghost use Rattle.sip_counts.specs.Joint.{misled};
-ghost use Rattle.sip_counts.specs.Late.{AreWithin, HasTakenWrong, LedTo, fooled_late, plan_bounds, seats_at};
+ghost use Rattle.sip_counts.specs.Late.{AreWithin, HasTakenWrong, LedTo, fooled_late, plan_bounds};
+ghost use Rattle.sip_counts.specs.Late.{seats_at};
 ghost use Rattle.sip_counts.specs.Strategies.{replies, fooled};
 
 /// Counts by hand: (1 - r_1)·(1 - r_2) is 0 modulo 31 at 31 + 31 - 1 of the 961 vectors; (1, 2) is

@@ -1,9 +1,12 @@
 //! Laws of seats that are used in any order. These functions do nothing: each contract is a fact
 //! that holds.
 
-ghost use Rattle.std.specs.Prelude.{◌≡◌, ℕ, ◌*◌, ◌-◌, ◌^◌, ◌<◌, ◌≤◌, ◌||◌, true, false, List, [], ◌∷◌, ◌++◌, length, take, drop, All, Any};
+ghost use Rattle.std.specs.Prelude.{◌≡◌, ℕ, ◌*◌, ◌-◌, ◌^◌, ◌<◌, ◌≤◌, ◌||◌, true, false, List, []};
+ghost use Rattle.std.specs.Prelude.{◌∷◌, ◌++◌, length, take, drop, All, Any};
 ghost use Rattle.sip_counts.specs.Joint.{after, is_misled};
-ghost use Rattle.sip_counts.specs.Late.{Asked, AreWithin, HasTakenWrong, IsBounded, LedTo, Plan, Use, fooled_late, is_fooled, plan_bounds, seat_of, seats_at, some_fooled, unasked};
+ghost use Rattle.sip_counts.specs.Late.{CountedQuestion, AreWithin, HasTakenWrong, IsBounded};
+ghost use Rattle.sip_counts.specs.Late.{LedTo, Plan, Use, fooled_late, is_fooled, plan_bounds};
+ghost use Rattle.sip_counts.specs.Late.{seat_of, seats_at, some_fooled, unasked};
 ghost use Rattle.sip_counts.specs.Strategies.{Strategy, IsOfBytes, takes_wrong};
 
 /// The count that does not mind the order. Each seat's question, and the replies to it, may be any
@@ -56,7 +59,8 @@ pub fn unused_seats_fool_nobody()
 pub fn queries_in_turn_one_by_one()
     ensures none { (d : ℕ) (strategy : Strategy) (earlier v : List ℕ)
         → is_misled d strategy [] earlier v ≡ false }
-    ensures more { (d : ℕ) (strategy : Strategy) (q : Asked) (queries : List Asked)
+    ensures more { (d : ℕ) (strategy : Strategy) (q : CountedQuestion)
+        (queries : List CountedQuestion)
         (earlier v : List ℕ) → is_misled d strategy (q ∷ queries) earlier v
         ≡ (takes_wrong q.accepts q.is_right (after earlier strategy) (take d v)
         || is_misled d strategy queries (earlier ++ take d v) (drop d v)) }

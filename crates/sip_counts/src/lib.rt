@@ -8,12 +8,12 @@
 //!
 //! | Module | Definitions |
 //! |---|---|
-//! | `Counts` | sums and counts over the numbers below p; how many of the p^d vectors of d challenges pass a test |
-//! | `Strategies` | what a helper may do; its replies at a vector; the test that it has a wrong answer accepted there; how many vectors are such |
-//! | `Late` | seats that are used in any order: what a plan may know, and where some seat is fooled |
-//! | `Joint` | queries in turn, whose helper sees the earlier blocks of challenges: seats whose questions are fixed |
+//! | `Counts` | sums and counts over the numbers below p; how many challenge vectors pass a test |
+//! | `Strategies` | what a helper may do; at how many vectors it has a wrong answer accepted |
+//! | `Late` | seats that are used in any order: what a plan may know, where some seat is fooled |
+//! | `Joint` | queries in turn, whose helper sees the earlier blocks of challenges |
 //! | `Clauses` | what a call that writes an answer promises of a helper that lies |
-//! | `Rounds` | the rounds of a sum-check of any degree: when stated polynomials add up, and which are true |
+//! | `Rounds` | the rounds of a sum-check of any degree: which polynomials add up, and are true |
 //!
 //! A test is a function from a list of challenges to a truth value, and not a relation between
 //! challenges and replies: a strategy turns the second into the first, so that one count, one

@@ -1,9 +1,11 @@
 //! Laws of strategies, and of the count over a whole session. These functions do nothing: each
 //! contract is a fact that holds.
 
-ghost use Rattle.std.specs.Prelude.{◌≡◌, ◌≢◌, ℕ, ◌*◌, ◌-◌, ◌^◌, ◌<◌, ◌≤◌, Bool, true, false, Option, Some, None, List, [], ◌∷◌, length, map, All};
-ghost use Rattle.sip_counts.specs.Joint.{Asked, IsBounded, bounds, misled};
-ghost use Rattle.sip_counts.specs.Strategies.{Strategy, IsOfBytes, strategy_of, replies, takes_wrong};
+ghost use Rattle.std.specs.Prelude.{◌≡◌, ◌≢◌, ℕ, ◌*◌, ◌-◌, ◌^◌, ◌<◌, ◌≤◌, Bool, true, false};
+ghost use Rattle.std.specs.Prelude.{Option, Some, None, List, [], ◌∷◌, length, map, All};
+ghost use Rattle.sip_counts.specs.Joint.{CountedQuestion, IsBounded, bounds, misled};
+ghost use Rattle.sip_counts.specs.Strategies.{Strategy, IsOfBytes, strategy_of, replies};
+ghost use Rattle.sip_counts.specs.Strategies.{takes_wrong};
 
 /// Each talk is some strategy's, so a promise about every strategy that replies as a helper did
 /// speaks of each talk.
@@ -47,7 +49,8 @@ pub fn accepted_wrong_replies_are_counted()
 /// the joint vectors than the sum of the bounds, times p^(N - 1), N being the number of all
 /// challenges.
 pub fn few_joint_vectors()
-    ensures { (p d : ℕ) (strategy : Strategy) (queries : List Asked) → 0 < d → IsOfBytes strategy
+    ensures { (p d : ℕ) (strategy : Strategy) (queries : List CountedQuestion)
+        → 0 < d → IsOfBytes strategy
         → All (IsBounded p d) queries
         → misled p d strategy queries ≤ bounds queries * p ^ (length queries * d - 1) }
 {}

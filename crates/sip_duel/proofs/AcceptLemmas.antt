@@ -102,6 +102,32 @@ pub shallow_of : (v : Version) (depth : ℕ) (qs : List Query) → 0 < length qs
 shallow_of v depth [] some all = absurd (omega (arith, some))
 shallow_of v depth (q ∷ qs) some all = (All-head (Speaks v depth) q qs all).shallow
 
+-- ---- the rounds of a stream
+
+module _ (v : Version) (depth : ℕ) (stream : List Update) (Last : List ℕ → List ℕ → Type 0) (shallow : depth ≤ deepest v) where
+  abbrev sent : List (List Update)
+  sent = cut most_rows stream
+
+  -- what is said in them
+  pub said_stream : (tail : List Round) → exchange v (stream_rounds Last v depth shallow sent tail) ≡ stream_sent v depth stream ++ exchange v tail
+  said_stream tail =
+      let o : List ℕ = spelling v (messages.Open (number_of v) depth) in
+      let f : List ℕ = flat_map (spelling v) (map (λ us. messages.Updates (record { items = us })) sent) in
+      let e : List ℕ = spelling v messages.EndStream in
+      ap (λ l. outs o ++ l) (exchange_feed v sent (silent messages.EndStream ∷ tail))
+      ∙ sym (append_assoc (outs o) (outs f) (outs e ++ exchange v tail))
+      ∙ sym (append_assoc (outs o ++ outs f) (outs e) (exchange v tail))
+      ∙ ap (λ l. (l ++ outs e) ++ exchange v tail) (sym (outs-append o f))
+      ∙ ap (λ l. (outs (o ++ f) ++ outs l) ++ exchange v tail) (sym (append-nil e))
+
+  -- a helper that is new comes through them to a rest
+  pub walk_all : 1 ≤ depth → IsLegal depth stream → (tail : List Round) → ((t : HelperState) → IsAtRest v depth (vectors_of depth stream) t 0 → Walk Last v t tail)
+      → Walk Last v fresh (stream_rounds Last v depth shallow sent tail)
+  walk_all some legal tail on =
+      let whole : flat_map (λ p. p) sent ≡ stream = pieces_all ((length stream + 511) / 512) stream refl in
+      walk_stream Last v depth shallow some sent tail (pieces_fine ((length stream + 511) / 512) stream refl) (subst (IsLegal depth) (sym whole) legal)
+      (λ t at. on t (subst (λ us. IsAtRest v depth (vectors_of depth us) t 0) whole at))
+
 -- ---- the farewell, which has one spelling, in each version
 
 pub bye_fits : (w : Version) → IsTrue (fits w messages.Bye)
@@ -163,26 +189,6 @@ module _ (task : Task) (x : Exchange) (some : 1 ≤ task.depth) (most : task.dep
   abbrev frames : List (List Update)
   frames = cut most_rows stream
 
-  whole : flat_map (λ p. p) frames ≡ stream
-  whole = pieces_all ((length stream + 511) / 512) stream refl
-
-  module _ (Last : List ℕ → List ℕ → Type 0) where
-    said_stream : (tail : List Round) → exchange v (stream_rounds Last v task.depth shallow frames tail) ≡ stream_sent v task.depth stream ++ exchange v tail
-    said_stream tail =
-        let o : List ℕ = spelling v (messages.Open (number_of v) task.depth) in
-        let f : List ℕ = flat_map (spelling v) (map (λ us. messages.Updates (record { items = us })) frames) in
-        let e : List ℕ = spelling v messages.EndStream in
-        ap (λ l. outs o ++ l) (exchange_feed v frames (silent messages.EndStream ∷ tail))
-        ∙ sym (append_assoc (outs o) (outs f) (outs e ++ exchange v tail))
-        ∙ sym (append_assoc (outs o ++ outs f) (outs e) (exchange v tail))
-        ∙ ap (λ l. (l ++ outs e) ++ exchange v tail) (sym (outs-append o f))
-        ∙ ap (λ l. (outs (o ++ f) ++ outs l) ++ exchange v tail) (sym (append-nil e))
-
-    walk_all : (tail : List Round) → ((t : HelperState) → IsAtRest v task.depth (vectors_of task.depth stream) t 0 → Walk Last v t tail) → Walk Last v fresh (stream_rounds Last v task.depth shallow frames tail)
-    walk_all tail on =
-        walk_stream Last v task.depth shallow some frames tail (pieces_fine ((length stream + 511) / 512) stream refl) (subst (IsLegal task.depth) (sym whole) legal)
-        (λ t at. on t (subst (λ us. IsAtRest v task.depth (vectors_of task.depth us) t 0) whole at))
-
   -- ---- every query was accepted
 
   pub accepted_report : AllWritten (inquiry_of task x) x → x.report ≡ report_of task.depth stream task.queries.items
@@ -195,7 +201,7 @@ module _ (task : Task) (x : Exchange) (some : 1 ≤ task.depth) (most : task.dep
       let rest : List Round = done_rounds v task.depth stream some legal w.done bye in
       let count : length questions ≡ length w.done = length-map w.done (λ a. a.question) in
       let all : take (length questions) task.queries.items ≡ task.queries.items = take_all (length questions) task.queries.items (omega (arith, count, w.all)) in
-      let walk = walk_all Last rest (λ t at. walk_done v task.depth stream some legal Last w.done bye (posed questions are) t 0 at (let fits : 0 + length w.done ≤ most_queries = omega (arith, room, w.all) in fits)
+      let walk = walk_all v task.depth stream Last shallow some legal rest (λ t at. walk_done v task.depth stream some legal Last w.done bye (posed questions are) t 0 at (let fits : 0 + length w.done ≤ most_queries = omega (arith, room, w.all) in fits)
       (λ u m less again lines. walk_then Last v u (silent messages.Bye) [] (record {
         is = record { has_spelling = bye_fits u.version; to_helper = refl; in_range = tt };
         same = bye_same v u.version;
@@ -204,7 +210,7 @@ module _ (task : Task) (x : Exchange) (some : 1 ≤ task.depth) (most : task.dep
       (holds_of Last v (stream_rounds Last v task.depth shallow frames rest) walk x.talk
       (w.reached.talk ∙ append_assoc (stream_sent v task.depth stream) (flat_map (said_for v task.depth stream) questions) (bye_sent v)
       ∙ ap (λ l. stream_sent v task.depth stream ++ l) (ap (λ l. flat_map (said_for v task.depth stream) questions ++ l) (bye_is v) ∙ said_done v task.depth stream some legal w.done bye (posed questions are))
-      ∙ sym (said_stream Last rest)) talk).last
+      ∙ sym (said_stream v task.depth stream Last shallow rest)) talk).last
 
   -- ---- a query was rejected
 
@@ -251,7 +257,7 @@ module _ (task : Task) (x : Exchange) (some : 1 ≤ task.depth) (most : task.dep
           let rest : List Round = done_rounds v task.depth stream some legal w.done tail in
           let row = Rattle.sip_verifier.specs.Kinds.kind_row v task.depth stream w.last.query in
           let known = how v task.depth stream some legal w.last.query w.last.block here in
-          let walk = walk_all Last rest (λ t at. walk_done v task.depth stream some legal Last w.done tail before t 0 at (let fits : 0 + length w.done ≤ most_queries = omega (arith, room_for) in fits)
+          let walk = walk_all v task.depth stream Last shallow some legal rest (λ t at. walk_done v task.depth stream some legal Last w.done tail before t 0 at (let fits : 0 + length w.done ≤ most_queries = omega (arith, room_for) in fits)
           (λ u m less again lines. fault_row v task.depth stream some legal w.last.query w.last.block here row b bs fault known faulty u m again (omega (arith, room_for, less)))) in
           let rounds : List Round = stream_rounds Last v task.depth shallow frames rest in
           let said : x.talk ≡ exchange v rounds ++ ending reason =
@@ -261,7 +267,7 @@ module _ (task : Task) (x : Exchange) (some : 1 ≤ task.depth) (most : task.dep
           ∙ sym (append-nil (said_for v task.depth stream (record { query = w.last.query; block = w.last.block; replies = b ∷ bs })))
           ∙ said_fault v task.depth stream some legal w.last.query w.last.block here row b bs fault [] known faulty)
           ∙ said_done v task.depth stream some legal w.done tail before)
-          ∙ sym (said_stream Last rest)) in
+          ∙ sym (said_stream v task.depth stream Last shallow rest)) in
           elim (ends_in reason) [
             | inl closed ↦
                 let h = whole_of Last v rounds walk x.talk (said ∙ ap (λ l. exchange v rounds ++ l) closed.1) talk in

@@ -13,7 +13,7 @@ use Rattle.sip_duel.specs.declared.honest.Honest.{Honest}
 use Rattle.sip_duel.specs.declared.honest.Standing.{Standing}
 use Rattle.sip_duel.specs.declared.honest.Standing.TheVariants.{InTurn, Stray}
 use Rattle.sip_duel.specs.Helping.{Appends, IsOwed, Replies}
-use Rattle.sip_duel.specs.Told.{told, told_by}
+use Rattle.sip_duel.specs.Told.{told_state, told_by}
 
 pub appended : (old new bytes : List ℕ) → outs new ≡ outs old ++ outs bytes → new ≡ old ++ bytes
 appended old new bytes e = outs-injective new (old ++ bytes) (e ∙ sym (outs-append old bytes))
@@ -57,5 +57,5 @@ pub refused : (new : Option HelperState) (version : Version) (m : Message) (befo
 refused new version m before after went = record { bytes = spelling version m; longer = appended before after (spelling version m) went; going = spelled_something version m; owed = tt }
 
 pub stray_replies : {E : Type 0} (h : Honest) (new : Option HelperState) (before after : List ℕ) (r : Result More E) → h.standing ≡ Stray
-    → Replies None new before after r → Replies (told h) new before after r
+    → Replies None new before after r → Replies (told_state h) new before after r
 stray_replies h new before after r e p = subst (λ x. Replies x new before after r) (sym (ap (λ x. told_by x h.core) e)) p

@@ -24,7 +24,7 @@ use Rattle.sip_duel.specs.declared.kept.Mood.TheVariants as moods
 use Rattle.sip_duel.specs.declared.helper.More.{More}
 use Rattle.sip_duel.specs.declared.helper.More.TheVariants as mores
 use Rattle.sip_duel.specs.Helping.{Hears, HearsBy, IsOwed, Appends}
-use Rattle.sip_duel.specs.Story.{Step, Heard, Answered, state_after, said, frames, Follows, left, IsLive, IsShort, IsStray, IsOver, WasRight, BeginsWithEnd, Keeps, KeepsEnded, KeepsBy, Asked, IsHonestTalk}
+use Rattle.sip_duel.specs.Story.{Step, Heard, Answered, state_after, said, frames, Follows, left, IsLive, IsShort, IsStray, IsOver, WasRight, BeginsWithEnd, Keeps, KeepsEnded, KeepsBy, HasAsked, IsHonestTalk}
 use Rattle.sip_duel.specs.Taking.{IsNoFrame, Takes, version_after}
 use Rattle.sip_duel.specs.declared.part.Taken.{Taken}
 use Rattle.sip_duel.specs.declared.part.Taken.TheVariants as taken
@@ -358,7 +358,7 @@ asked_keeps E s new k l mores.Ended opened none r at mood part talk p = λ m tal
     answered_over s new new k m opened (left_none k.at (sink_bytes k.out) none) (rw (out', at') some) mood' (subst (λ b. IsOwed s new b mores.Ended) r.going r.owed) (talk' ∙ ap (λ t. t ++ Ended ∷ []) talk) p
 
 pub asked_some : (E : Type 0) (s new : Option HelperState) (k l : Kept) (more : More) → k.at ≡ length (sink_bytes k.out)
-    → Appends s new (sink_bytes k.out) (sink_bytes l.out) more → l.at ≡ k.at → l.mood ≡ k.mood → Asked {E = E} k l (Ok more)
+    → Appends s new (sink_bytes k.out) (sink_bytes l.out) more → l.at ≡ k.at → l.mood ≡ k.mood → HasAsked {E = E} k l (Ok more)
 asked_some E s new k l mores.Goes none r at mood = (mood, λ e. r.going (sym (left_some l.at (sink_bytes k.out) r.bytes (sink_bytes l.out) (at ∙ none) r.longer) ∙ e))
 asked_some E s new k l mores.Ended none r at mood = (mood, left_some l.at (sink_bytes k.out) r.bytes (sink_bytes l.out) (at ∙ none) r.longer ∙ r.going)
 

@@ -1,5 +1,6 @@
 -- What happened on a link whose helper keeps to the turns.
-use Rattle.std.specs.Prelude.{drop, ◌≡◌, ◌≢◌, ◌⊎◌, ◌<◌, length, ℕ, Bool, false, IsTrue, List, [], ◌∷◌, ◌++◌, Option, Some, None, ⊤, Result, Ok, Err, All}
+use Rattle.std.specs.Prelude.{drop, ◌≡◌, ◌≢◌, ◌⊎◌, ◌<◌, length, ℕ, Bool, false, IsTrue, List, []}
+use Rattle.std.specs.Prelude.{◌∷◌, ◌++◌, Option, Some, None, ⊤, Result, Ok, Err, All}
 use Rattle.sip_ports.specs.declared.port.TalkEvent.{TalkEvent}
 use Rattle.sip_ports.specs.declared.port.TalkEvent.TheVariants.{Ended}
 use Rattle.sip_ports.specs.Ports.{heard, written}
@@ -49,8 +50,8 @@ AreSteps (Heard m refused ∷ before) =
     × AreSteps before
 AreSteps (Answered ∷ before) = AreSteps before
 
--- The events are those of these steps, but for a part of a frame that was sent, and for these bytes,
--- which were appended and not given yet. None is an end.
+-- The events are those of these steps, but for a part of a frame that was sent, and for these
+-- bytes, which were appended and not given yet. None is an end.
 pub record Follows (steps : List Step) (part give : List ℕ)
     (talk : List TalkEvent) : Type 0 where
   pub are : AreSteps steps
@@ -133,15 +134,15 @@ KeepsBy state k (Ok mores.Ended) = KeepsEnded state k
 KeepsBy state k (Err e) = Keeps state k
 
 -- what is left, by what a helper answered
-abbrev pub Asked : {E : Type 0} → Kept → Kept → Result More E → Type 0
-Asked old new (Ok mores.Goes) = (new.mood ≡ old.mood) × (left new ≢ [])
-Asked old new (Ok mores.Ended) = (new.mood ≡ old.mood) × (left new ≡ [])
-Asked old new (Err e) = new.mood ≡ moods.Failed
+abbrev pub HasAsked : {E : Type 0} → Kept → Kept → Result More E → Type 0
+HasAsked old new (Ok mores.Goes) = (new.mood ≡ old.mood) × (left new ≢ [])
+HasAsked old new (Ok mores.Ended) = (new.mood ≡ old.mood) × (left new ≡ [])
+HasAsked old new (Err e) = new.mood ≡ moods.Failed
 
 -- ---- what such a link tells
 
--- The events are those of steps by the turns, but for a part of a frame that was sent, and for bytes
--- that were appended and not given.
+-- The events are those of steps by the turns, but for a part of a frame that was sent, and for
+-- bytes that were appended and not given.
 pub record IsUnderWay (talk : List TalkEvent) : Type 0 where
   pub steps : List Step
   pub part : List ℕ

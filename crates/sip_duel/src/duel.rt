@@ -20,11 +20,11 @@ use std::alloc::Global;
 /// Does a task over a link to a boxed helper, which is closed and dropped at every exit; the talk
 /// stays on the link.
 ///
-/// It is [`check_stream`] over that link, and makes its seven promises. The link counts no fault, so
-/// no answer is a fault of the peer. Where the helper is an honest one that had heard nothing, its
-/// bytes are the replies that are owed by the turns of a helper, and a good run over a link that
-/// was made for it is accepted with the stream's own answers. Want of memory alone changes that: at
-/// this end it is the answer, and the helper refuses a query.
+/// It is [`check_stream`] over that link, and makes its seven promises. The link counts no fault,
+/// so no answer is a fault of the peer. Where the helper is an honest one that had heard nothing,
+/// its bytes are the replies that are owed by the turns of a helper, and a good run over a link
+/// that was made for it is accepted with the stream's own answers. Want of memory alone changes
+/// that: at this end it is the answer, and the helper refuses a query.
 pub fn play<A: Source, B: Source, K: Sink, C: Sink>(
     alloc: Global,
     task: &Task,

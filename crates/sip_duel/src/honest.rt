@@ -37,12 +37,12 @@ pub struct Honest {
 
 impl Honest {
     ghost use Rattle.std.specs.Prelude.{◌≡◌};
-    ghost use Rattle.sip_duel.specs.Told.{told};
+    ghost use Rattle.sip_duel.specs.Told.{told_state};
     ghost use Rattle.sip_helper.specs.Turns.{fresh};
 
     /// A helper that has heard nothing.
     pub fn new(alloc: Global) -> Honest
-        ensures { told result ≡ Option.Some fresh }
+        ensures { told_state result ≡ Option.Some fresh }
     {
         Honest {
             core: HelperCore::new(alloc),
@@ -78,13 +78,13 @@ impl Helper for Honest {
     ghost use Rattle.std.specs.Prelude.{◌≡◌, Ok, false};
     ghost use Rattle.sip_helper.specs.Turns.{is_allowed};
     ghost use Rattle.sip_duel.specs.Helping.{Hears, Replies, IsRefusal};
-    ghost use Rattle.sip_duel.specs.Told.{told};
+    ghost use Rattle.sip_duel.specs.Told.{told_state};
 
-    ghost honest_state = { told };
+    ghost honest_state = { told_state };
 
     fn hear(&mut self, message: &Message)
         requires { IsTrue (fits Two message.now) }
-        ensures hears { Hears (told self.old) message.now (told self.new) }
+        ensures hears { Hears (told_state self.old) message.now (told_state self.new) }
         ensures stray { self.old.standing ≡ standings.InTurn
             → is_allowed self.old.core message.now ≡ false
             → self.new.standing ≡ standings.Stray }
@@ -99,7 +99,7 @@ impl Helper for Honest {
     fn answer(&mut self, out: &mut MemorySink) -> Result<More, OutOfMemory>
         requires { sink_is_sure out.old }
         ensures sure { sink_is_sure out.new }
-        ensures replies { Replies (told self.old) (told self.new)
+        ensures replies { Replies (told_state self.old) (told_state self.new)
             (sink_bytes out.old) (sink_bytes out.new) result }
         ensures refuses { self.old.standing ≡ standings.Stray
             → IsRefusal self.old.core.version (sink_bytes out.old) (sink_bytes out.new) result }

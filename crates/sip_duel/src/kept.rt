@@ -1,6 +1,7 @@
 //! What a link keeps of its talk.
 
-ghost use Rattle.std.specs.Prelude.{◌≡◌, ◌≤◌, ◌<◌, ◌++◌, ◌∷◌, ◌+◌, [], length, take, drop, OnOk, OnErr, IfOk, MatchResult, vec_len, vec_capacity};
+ghost use Rattle.std.specs.Prelude.{◌≡◌, ◌≤◌, ◌<◌, ◌++◌, ◌∷◌, ◌+◌, [], length, take, drop, OnOk};
+ghost use Rattle.std.specs.Prelude.{OnErr, IfOk, MatchResult, vec_len, vec_capacity};
 ghost use Rattle.sip_ports.specs.Memory.{sink_bytes, sink_is_sure};
 ghost use Rattle.sip_ports.specs.Ports.{outs, ins, heard};
 ghost use Rattle.sip_ports.specs.declared.port.TalkEvent.TheVariants.{Ended};

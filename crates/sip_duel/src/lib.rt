@@ -12,9 +12,9 @@
 //!   has ended (`HelperLink::receive`).
 //! - A link to an honest helper that had heard nothing keeps the promise `Keeps`, through every
 //!   call that knows any link: what it gives are the replies that the turns owe for what was sent.
-//! - `play` makes the seven promises of `check_stream`, is never a fault of the peer, and closes and
-//!   drops the helper. With an honest helper its talk is an honest one: `IsHonestTalk`. With a good
-//!   seed, a legal stream and ports that do not fail it is then accepted with the stream's own
+//! - `play` makes the seven promises of `check_stream`, is never a fault of the peer, and closes
+//!   and drops the helper. With an honest helper its talk is an honest one: `IsHonestTalk`. With a
+//!   good seed, a legal stream and ports that do not fail it is then accepted with the stream's own
 //!   answers, unless memory runs out at one of the two ends: `DuelAccepts`.
 //! - `Honest` refuses a message out of turn once, and has ended then.
 //! - A `Liar` appends the reply of the first of its lies that is about the point of the talk, and

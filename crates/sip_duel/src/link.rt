@@ -1,6 +1,7 @@
 //! A link to a boxed helper.
 
-ghost use Rattle.std.specs.Prelude.{◌≡◌, ◌≢◌, ◌⊎◌, ◌<◌, Ok, [], length, take, vec_len, vec_capacity, Some, None, Option, IsTrue, IfOk, OnErr, ⊤};
+ghost use Rattle.std.specs.Prelude.{◌≡◌, ◌≢◌, ◌⊎◌, ◌<◌, Ok, [], length, take, vec_len};
+ghost use Rattle.std.specs.Prelude.{vec_capacity, Some, None, Option, IsTrue, IfOk, OnErr, ⊤};
 ghost use Rattle.std.specs.Option.{option_and_then};
 ghost use Rattle.std.specs.Io.{ReadsAtMost, WritesAtMost};
 ghost use Rattle.sip_ports.specs.Memory.{sink_bytes, sink_is_sure};
@@ -10,7 +11,7 @@ ghost use Rattle.sip_wire.specs.Spelling.{fits};
 ghost use Rattle.sip_wire.specs.declared.version.Version.TheVariants.{Two};
 ghost use Rattle.sip_helper.specs.Turns.{fresh};
 ghost use Rattle.sip_duel.specs.Helping.{Hears as Heeds, Replies};
-ghost use Rattle.sip_duel.specs.Story.{Asked, Keeps, KeepsBy, left};
+ghost use Rattle.sip_duel.specs.Story.{HasAsked, Keeps, KeepsBy, left};
 ghost use Rattle.sip_duel.specs.declared.kept.Mood.TheVariants as moods;
 
 use crate::kept::{Kept, Mood};
@@ -47,7 +48,7 @@ fn ask(helper: &mut Box<dyn Helper>, kept: &mut Kept) -> Result<More, OutOfMemor
     requires none { kept.old.at ≡ length (sink_bytes kept.old.out) }
     ensures talk { kept.new.talk ≡ kept.old.talk }
     ensures at { kept.new.at ≡ kept.old.at }
-    ensures some { Asked kept.old kept.new result }
+    ensures some { HasAsked kept.old kept.new result }
     ensures keeps { Keeps (honest_state helper.old) kept.old
         → KeepsBy (honest_state helper.new) kept.new result }
 {
@@ -205,7 +206,7 @@ impl HelperLink {
         ensures talk { self.new.kept.talk ≡ self.old.kept.talk }
         ensures at { self.new.kept.at ≡ self.old.kept.at }
         ensures wants { self.new.wants ≡ self.old.wants }
-        ensures some { Asked self.old.kept self.new.kept result }
+        ensures some { HasAsked self.old.kept self.new.kept result }
         ensures keeps { Keeps (option_and_then honest_state self.old.helper) self.old.kept
             → KeepsBy (option_and_then honest_state self.new.helper) self.new.kept result }
     {
@@ -238,8 +239,8 @@ impl HelperLink {
         }
     }
 
-    /// Sends, as [`Sink::write`] does, and says all that is known of it: the helper hears only where
-    /// the link is open, and a link that has ended or failed stays so.
+    /// Sends, as [`Sink::write`] does, and says all that is known of it: the helper hears only
+    /// where the link is open, and a link that has ended or failed stays so.
     ///
     /// # Errors
     ///

@@ -1,6 +1,7 @@
 //! The frame whose bytes are being sent.
 
-ghost use Rattle.std.specs.Prelude.{◌≡◌, ◌<◌, ◌≤◌, ◌+◌, ◌++◌, [], List, ℕ, IfOk, OnOk, length, vec_len, vec_capacity};
+ghost use Rattle.std.specs.Prelude.{◌≡◌, ◌<◌, ◌≤◌, ◌+◌, ◌++◌, [], List, ℕ, IfOk, OnOk, length};
+ghost use Rattle.std.specs.Prelude.{vec_len, vec_capacity};
 ghost use Rattle.sip_wire.specs.Spelling.{asked};
 ghost use Rattle.sip_wire.specs.declared.kind.Place.TheVariants as places;
 ghost use Rattle.sip_wire.specs.declared.version.Version.TheVariants as versions;

@@ -1,5 +1,6 @@
 -- Products over the bits of an index, one factor for each challenge, and tables of such products.
-use Rattle.std.specs.Prelude.{◌≡◌, ℕ, ◌*◌, ◌/◌, ◌%◌, ◌^◌, ◌<◌, ◌==◌, List, [], ◌∷◌, length, take, drop, slice_index, slice_index_or, if◌then◌else◌}
+use Rattle.std.specs.Prelude.{◌≡◌, ℕ, ◌*◌, ◌/◌, ◌%◌, ◌^◌, ◌<◌, ◌==◌, List, [], ◌∷◌, length, take}
+use Rattle.std.specs.Prelude.{drop, slice_index, slice_index_or, if◌then◌else◌}
 use Rattle.sip_field.specs.Residue.{difference_mod}
 use Rattle.sip_field.specs.declared.factors.Factors.{Factors}
 use Rattle.sip_field.specs.declared.factors.Factors.TheVariants.{Tree, Extension}

@@ -1,6 +1,7 @@
 //! Challenges that are drawn from a generator's words.
 ghost use Rattle.std.specs.Prelude.{◌≡◌, ℕ, ◌-◌, ◌≤◌, ◌↔◌, IsErr, length};
-ghost use Rattle.sip_field.specs.Draw.{AllMissed, drawn, drawn_list, draw_one, draw_list, seed_words};
+ghost use Rattle.sip_field.specs.Draw.{AllMissed, drawn, drawn_list, draw_one, draw_list};
+ghost use Rattle.sip_field.specs.Draw.{seed_words};
 
 use crate::arithmetic::Field;
 use crate::mersenne::M61;

@@ -1,5 +1,6 @@
 //! Products of a seat's challenges, made once for many indices.
-ghost use Rattle.std.specs.Prelude.{◌≡◌, ℕ, List, ◌+◌, ◌*◌, ◌/◌, ◌%◌, ◌^◌, ◌<◌, ◌≤◌, All, length, take, drop};
+ghost use Rattle.std.specs.Prelude.{◌≡◌, ℕ, List, ◌+◌, ◌*◌, ◌/◌, ◌%◌, ◌^◌, ◌<◌, ◌≤◌, All, length};
+ghost use Rattle.std.specs.Prelude.{take, drop};
 ghost use Rattle.sip_field.specs.Products.{zero_factor, bits_product, HasProducts, AreTables};
 
 use crate::arithmetic::Field;
@@ -15,20 +16,22 @@ pub enum Factors {
 }
 
 /// The products for at most seven challenges, those of the levels above `from`. Entry e is that of
-/// the index e, the lowest bit first, for each e below 2^n, where there are n challenges.
+/// the index e, the lowest bit first, for each e below 2^n, where there are n challenges. They are
+/// made where they are to lie: a table is too large to be moved about.
 ///
 /// 2^n - 1 `times`: each challenge doubles what there is, by one for each pair.
 pub(crate) fn products<F: Field, const CAP: usize>(
+    table: &mut [u64; 128],
     seat: &Seat<F, CAP>,
     from: usize,
     factors: Factors,
-) -> [u64; 128]
+)
     requires { from ≤ length seat.now }
     ensures products { HasProducts F.MODULUS (zero_factor F.MODULUS factors)
-        (take 7 (drop from seat.now)) result }
-    ensures below { All (λ x. x < F.MODULUS) result }
+        (take 7 (drop from seat.now)) table.new }
+    ensures below { All (λ x. x < F.MODULUS) table.new }
 {
-    let mut table = [1; 128];
+    *table = [1; 128];
     let mut filled = 1;
     let left = seat.depth() - from;
     let levels = if left < 7 { left } else { 7 };
@@ -46,7 +49,6 @@ pub(crate) fn products<F: Field, const CAP: usize>(
         }
         filled *= 2;
     }
-    table
 }
 
 /// Makes the tables of all challenges of a seat, and says how many they are: table g is that of the
@@ -68,7 +70,7 @@ pub fn fill_tables<F: Field, const CAP: usize>(
 {
     let count = (seat.depth() + 6) / 7;
     for group in 0..count {
-        tables[group] = products(seat, 7 * group, factors);
+        products(&mut tables[group], seat, 7 * group, factors);
     }
     count
 }
@@ -94,26 +96,31 @@ pub fn by_tables<F: Field>(start: F, tables: &[[u64; 128]], index: u64) -> F
 }
 
 /// A number with the residue of what [`by_tables`] answers, where there are N tables: the loop over
-/// them has a length that the compiler knows, and only its end is left to reduce. It is below (N +
-/// 1) * 2^61.
+/// them has a length that the compiler knows, and its end is left to reduce. It begins with a
+/// number as [`loose_signed`](Field::loose_signed) gives it.
 ///
 /// One `loose_times` for each table.
 pub fn loosely_by_tables<F: Field, const N: usize>(
-    start: F,
+    start: u64,
     tables: &[[u64; 128]],
     index: u64,
 ) -> u64
     requires exact { length tables.now ≡ N }
     requires few { N ≤ 7 }
+    requires most { start ≤ 2 ^ 62 + 1 }
     requires below { All (All (λ x. x < F.MODULUS)) tables.now }
     ensures { (zero : ℕ → ℕ) (challenges : List ℕ) → AreTables F.MODULUS zero challenges tables.now
         → length challenges ≤ 7 * length tables.now → index < 2 ^ length challenges
         → result % F.MODULUS
-        ≡ (F.number start * bits_product F.MODULUS zero index challenges) % F.MODULUS }
+        ≡ (start * bits_product F.MODULUS zero index challenges) % F.MODULUS }
 {
-    let mut product = start.number();
+    let mut product = start;
     let mut path = index;
     for group in 0..N {
+        // 64 bits have room for six products from such a number on.
+        if group == 6 {
+            product = F::of(product).number();
+        }
         product = F::loose_times(product, tables[group][(path % 128) as usize]);
         path /= 128;
     }

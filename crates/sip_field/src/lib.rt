@@ -24,7 +24,7 @@
 //! | `Polynomial` | the value of a polynomial |
 //! | `Draw` | how challenges come from words, one and several, and the words of a seed |
 //! | `Challenges` | which lists are the challenges of a seat |
-//! | `Products` | the product of what the challenges count for the bits of an index, and tables of such products |
+//! | `Products` | products of what the challenges count for the bits of an index; their tables |
 //!
 //! # The laws, and how a proof above uses them
 //!
@@ -49,20 +49,20 @@
 //!
 //! # Cost
 //!
-//! The unit is one `times`. For `M61` that is a product of 64 by 64 bits, a mask, a shift, an
-//! addition and at most one subtraction.
+//! The unit is one `times`. For `M61` that is a product of 64 by 64 bits, two shifts, an addition
+//! and at most one subtraction; `loose_times` leaves out the subtraction.
 //!
 //! | Call | `times` | Beside it, for `M61` |
 //! |---|---|---|
-//! | `of`, `of_number`, `number`, `plus`, `minus` | 0 | a few additions |
-//! | `of_signed` | 0 | one remainder of 64 bits |
+//! | `of`, `of_number`, `of_signed`, `loose_signed`, `number` | 0 | a few additions |
+//! | `plus`, `minus` | 0 | a few additions |
 //! | `horner` of n coefficients | n | n `plus` |
 //! | `draw_one` | 0 | one word, and another for each that gives no challenge, eight at most |
 //! | `draw_challenges` of n | 0 | n times `draw_one` |
 //! | `Seat::of` of n challenges | 0 | n copies |
 //! | `Seat::depth`, `Seat::at` | 0 | |
 //! | `fill_tables` | 127 for each seven challenges | as many `minus` for `Factors::Extension` |
-//! | `by_tables` of n tables | n | n look-ups |
+//! | `by_tables`, `loosely_by_tables` of n tables | n | n look-ups |
 #![tactic(auto)]
 
 mod arithmetic;

@@ -65,9 +65,14 @@ impl Field for M61 {
     }
 
     fn of_signed(x: i64) -> M61 {
-        M61 {
-            value: x.rem_euclid(P as i64) as u64,
-        }
+        M61::of(M61::loose_signed(x))
+    }
+
+    // Raised by 2^63 the number has no sign, and so no branch by it is taken. 2^63 is 4 modulo
+    // 2^61 - 1.
+    fn loose_signed(x: i64) -> u64 {
+        let raised = (1u64 << 63).wrapping_add_signed(x);
+        (raised & P) + (raised >> 61) + (P - 4)
     }
 
     fn number(self) -> u64 {
@@ -83,17 +88,16 @@ impl Field for M61 {
     }
 
     fn times(self, other: M61) -> M61 {
-        let product = u128::from(self.value) * u128::from(other.value);
-        let low = (product & u128::from(P)) as u64;
-        let high = (product >> 61) as u64;
-        reduced_once(low + high)
+        reduced_once(M61::loose_times(self.value, other.value))
     }
 
+    // Eight times the product has the bits above its lowest 61 in a word of their own: no bits of
+    // two words are to be put together.
     fn loose_times(x: u64, y: u64) -> u64 {
-        let product = u128::from(x) * u128::from(y);
-        let low = (product & u128::from(P)) as u64;
-        let high = (product >> 61) as u64;
-        low + high
+        let product = u128::from(x) * u128::from(8 * y);
+        let high = (product >> 64) as u64;
+        let low = (product % (1 << 64)) as u64;
+        high + low / 8
     }
 
     ghost odd = { refl };

@@ -1,5 +1,6 @@
 //! The challenges of one query.
-ghost use Rattle.std.specs.Prelude.{◌≡◌, ◌+◌, ◌-◌, ◌<◌, ◌≤◌, ◌↔◌, length, map, IsSome, IfSome, slice_index, min};
+ghost use Rattle.std.specs.Prelude.{◌≡◌, ◌+◌, ◌-◌, ◌<◌, ◌≤◌, ◌↔◌, length, map, IsSome, IfSome};
+ghost use Rattle.std.specs.Prelude.{slice_index, min};
 
 use crate::arithmetic::Field;
 use arrayvec::ArrayVec;

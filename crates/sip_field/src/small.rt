@@ -57,6 +57,10 @@ impl Field for F31 {
         }
     }
 
+    fn loose_signed(x: i64) -> u64 {
+        x.rem_euclid(P as i64) as u64
+    }
+
     fn number(self) -> u64 {
         self.value
     }

@@ -24,7 +24,7 @@ use Rattle.sip_replies.specs.declared.check.More.TheVariants as mores
 use Rattle.sip_replies.specs.Protocols.{Rules}
 use Rattle.sip_replies.specs.Replies.{Fault, IsAccepted, IsStated, frame_says, in_round, read_from, read_reply, run_from, step_says, verdict}
 use Rattle.sip_replies.proofs.Passing.{at_end_parts}
-use Rattle.sip_heavy.specs.AcceptsHeavy.{Asked, end_test, merged, with_nodes}
+use Rattle.sip_heavy.specs.AcceptsHeavy.{HeavyQuestion, end_test, merged, with_nodes}
 use Rattle.sip_heavy.specs.AcceptsHeavy as heavy
 use Rattle.sip_heavy.specs.Protocol.{HeavyAsked, HeavyState, ended, heavy_finish, heavy_protocol, heavy_rules, heavy_step, leaf_nodes, learns, reaches}
 use Rattle.sip_heavy.specs.Stating.{AreFrames, IsFrame, States, as_answer, stated_nodes, stated_replies, stated_reply}
@@ -40,7 +40,7 @@ pub record IsReply (version : Version) (s : HeavyState) (bytes : List ℕ) (t : 
   pub spelled : bytes ≡ stated_reply version frames
   pub next : t.level ≡ s.level + 1
 
-module _ (version : Version) (p : ℕ) (q : Asked) where
+module _ (version : Version) (p : ℕ) (q : HeavyQuestion) where
   abbrev R : Rules HeavyState
   R = heavy_rules version p q
 

@@ -12,7 +12,7 @@ use Rattle.sip_wire.specs.declared.message.Node.{Node}
 use Rattle.sip_wire.specs.declared.message.Reason.{Reason}
 use Rattle.sip_wire.specs.declared.message.Reason.TheVariants as reasons
 use Rattle.sip_replies.proofs.Passing.{step_passed, round_passed}
-use Rattle.sip_heavy.specs.AcceptsHeavy.{Asked, width, merged, nodes_above, level_nodes, known_after, top_test}
+use Rattle.sip_heavy.specs.AcceptsHeavy.{HeavyQuestion, width, merged, nodes_above, level_nodes, known_after, top_test}
 use Rattle.sip_heavy.specs.Rising.{Rises}
 use Rattle.sip_heavy.proofs.Levels.{received_rise, merged_rises, above_rises}
 use Rattle.sip_heavy.specs.TrueNodes.{Spot, is_spot, are_true, level_above}
@@ -36,7 +36,7 @@ halves_within n nodes (i ∷ rest) all =
     ]
 
 -- the nodes above a level that passes rise
-level_rises : (p r n : ℕ) (q : Asked) (level : ℕ) (known received nodes : List Node) → width q level ≡ 2 * n → Rises 0 (2 * n) known → Passed q level known received nodes → Rises 0 n (nodes_above p r nodes)
+level_rises : (p r n : ℕ) (q : HeavyQuestion) (level : ℕ) (known received nodes : List Node) → width q level ≡ 2 * n → Rises 0 (2 * n) known → Passed q level known received nodes → Rises 0 n (nodes_above p r nodes)
 level_rises p r n q level known received nodes wide rises passed =
     let fresh = received_rise q level known [] 0 received received (λ i _. omega arith) passed.taken in
     let whole : Rises 0 (width q level) (merged known received) = merged_rises (width q level) 0 known received (subst (λ k. Rises 0 k known) (sym wide) rises) fresh.0 fresh.1 in
@@ -56,7 +56,7 @@ alone_has x (i ∷ rest) at all =
     and_from (has (x ∷ []) i) (list_all (has (x ∷ [])) rest) (or_left (eqb x.index i) false (eq-eqb x.index i (omega (arith, at, ltb-true i 1 parts.0)))) (alone_has x rest at parts.1)
 
 -- the one node of the top is the true one
-top_clear : (p root : ℕ) (q : Asked) (truth : ℕ → Spot) (heavy : List ℕ) (known : List Node) → Rises 0 1 known → are_within 1 heavy ≡ true → (truth 0).0 ≡ root → (truth 0).1 ≡ q.total → top_test q root known ≡ Ok tt
+top_clear : (p root : ℕ) (q : HeavyQuestion) (truth : ℕ → Spot) (heavy : List ℕ) (known : List Node) → Rises 0 1 known → are_within 1 heavy ≡ true → (truth 0).0 ≡ root → (truth 0).1 ≡ q.total → top_test q root known ≡ Ok tt
     → is_clear p truth heavy known ≡ true
 top_clear p root q truth heavy [] rises within hash count is = absurd cc
 top_clear p root q truth heavy (x ∷ []) rises within hash count is =
@@ -91,7 +91,7 @@ first_there {X} (Some received) rest all is = by_rest (all_there rest) refl is
     by_rest None e k = absurd cc
     by_rest (Some more) e k = record { received = received; more = more; there = refl; others = e; same = (let same : all ≡ received ∷ more = cc in same) }
 
-module _ (p root : ℕ) (q : Asked) where
+module _ (p root : ℕ) (q : HeavyQuestion) where
   pub accepted_clears : (left level : ℕ) (strategy : List ℕ → Option (List Node)) (truth : ℕ → Spot) (heavy : List ℕ) (known : List Node) (v : List ℕ) (all : List (List Node)) (top : List Node)
       → length v ≡ left → q.depth ≡ level + left → Rises 0 (2 ^ left) known → are_within (2 ^ left) heavy ≡ true → all_there (replies strategy v) ≡ Some all
       → known_after p q level known v all ≡ Ok top → top_test q root top ≡ Ok tt → (level_after p v truth 0).0 ≡ root → (level_after p v truth 0).1 ≡ q.total

@@ -18,9 +18,9 @@ use Rattle.sip_replies.specs.Replies.{Fault}
 use Rattle.sip_replies.specs.declared.check.More.{More}
 use Rattle.sip_replies.specs.declared.check.More.TheVariants as mores
 use Rattle.sip_replies.proofs.Passing.{same_ok}
-use Rattle.sip_heavy.specs.AcceptsHeavy.{Asked, is_next, end_test, heavy_entries, known_after, leaves_of, merged, most_nodes, nodes_above, with_nodes}
+use Rattle.sip_heavy.specs.AcceptsHeavy.{HeavyQuestion, is_next, end_test, heavy_entries, known_after, leaves_of, merged, most_nodes, nodes_above, with_nodes}
 use Rattle.sip_heavy.specs.Asking.{HeavyStands, phase_of}
-use Rattle.sip_heavy.specs.Checking.{Advances, AnswersAs, Begun, Given, HasTaken, Kept, Takes, nothing}
+use Rattle.sip_heavy.specs.Checking.{Advances, AnswersAs, Begun, GivenNodes, HasTaken, Kept, Takes, nothing}
 use Rattle.sip_heavy.specs.Protocol.{HeavyAsked, HeavyState, end_step, ended, heavy_step, leaf_nodes, learns, nodes_step, nothing_came}
 use Rattle.sip_heavy.proofs.Given.{known_same, passed, refused}
 
@@ -76,7 +76,7 @@ more_of more (Ok u) = Ok more
 more_of more (Err reason) = Err reason
 
 -- a node more takes of the room
-room_taken : (q : Asked) (level : ℕ) (known before xs all : List Node) → with_nodes q level known before xs ≡ Ok all → 1 ≤ length xs
+room_taken : (q : HeavyQuestion) (level : ℕ) (known before xs all : List Node) → with_nodes q level known before xs ≡ Ok all → 1 ≤ length xs
     → (length known + length before < most_nodes q) × (length before < length all)
 room_taken q level known before [] all is some = absurd (omega (arith, some))
 room_taken q level known before (x ∷ xs) all is some =
@@ -98,7 +98,7 @@ room_taken q level known before (x ∷ xs) all is some =
 
 module _ (asked : HeavyAsked) (s : HeavyState) (c new : Kept) (places : List Entry) (stands : HeavyStands asked s c places) (at : c.revealed ≡ c.level) where
   module _ (xs : List Node) (result : Result (Unit {0}) Reason) (takes : Takes m61_modulus c xs new result) where
-    abbrev q : Asked
+    abbrev q : HeavyQuestion
     q = asked.query
 
     -- the test of the definition, by what the check keeps
@@ -176,7 +176,7 @@ module _ (asked : HeavyAsked) (s : HeavyState) (c new : Kept) (places : List Ent
   abbrev nodes : List Node
   nodes = merged c.known stands.given.received
 
-  abbrev with_end : Given
+  abbrev with_end : GivenNodes
   with_end = record { ended = stands.given.ended ++ stands.given.received ∷ []; received = [] }
 
   nodes_are : nodes ≡ merged s.known s.received
@@ -237,14 +237,14 @@ module _ (asked : HeavyAsked) (s : HeavyState) (c new : Kept) (places : List Ent
 
 -- ---- a frame, by its kind
 
-pub leaves_step_is : (q : Asked) (s : HeavyState) (c : Kept) (v : ArrayVec Leaf) → c.level ≡ s.level → (c.level == 0) ≡ true → heavy_step q s (messages.Leaves v) ≡ nodes_step q s (leaf_nodes v.items)
+pub leaves_step_is : (q : HeavyQuestion) (s : HeavyState) (c : Kept) (v : ArrayVec Leaf) → c.level ≡ s.level → (c.level == 0) ≡ true → heavy_step q s (messages.Leaves v) ≡ nodes_step q s (leaf_nodes v.items)
 leaves_step_is q s c v level at = let here : (s.level == 0) ≡ true = ap (λ j. j == 0) (sym level) ∙ at in rw here refl
 
-pub nodes_step_is : (q : Asked) (s : HeavyState) (c : Kept) (v : ArrayVec Node) → c.level ≡ s.level → (c.level == 0) ≡ false → heavy_step q s (messages.Nodes v) ≡ nodes_step q s v.items
+pub nodes_step_is : (q : HeavyQuestion) (s : HeavyState) (c : Kept) (v : ArrayVec Node) → c.level ≡ s.level → (c.level == 0) ≡ false → heavy_step q s (messages.Nodes v) ≡ nodes_step q s v.items
 nodes_step_is q s c v level at = let here : (s.level == 0) ≡ false = ap (λ j. j == 0) (sym level) ∙ at in rw here refl
 
 -- a step of a message is that of its frame
-pub of_message : (q : Asked) (s : HeavyState) (m n : Message) (Stands : HeavyState → Type 0) (given : Result More Reason) (r : Result (More × HeavyState) Reason) → m ≡ n → heavy_step q s n ≡ r → Steps r Stands given → Steps (heavy_step q s m) Stands given
+pub of_message : (q : HeavyQuestion) (s : HeavyState) (m n : Message) (Stands : HeavyState → Type 0) (given : Result More Reason) (r : Result (More × HeavyState) Reason) → m ≡ n → heavy_step q s n ≡ r → Steps r Stands given → Steps (heavy_step q s m) Stands given
 of_message q s m n Stands given r same is steps = subst (λ k. Steps (heavy_step q s k) Stands given) (sym same) (subst (λ t. Steps t Stands given) (sym is) steps)
 
 pub length_leaves : (ls : List Leaf) → length (leaf_nodes ls) ≡ length ls

@@ -14,7 +14,7 @@ use Rattle.sip_wire.specs.declared.message.Node.{Node}
 use Rattle.sip_wire.specs.declared.message.Reason.{Reason}
 use Rattle.sip_wire.specs.declared.message.Reason.TheVariants as reasons
 use Rattle.sip_replies.proofs.Passing.{step_passed, same_ok}
-use Rattle.sip_heavy.specs.AcceptsHeavy.{Asked, most_nodes, is_next, is_empty, are_pairs, pair_counts, nodes_above, merged, with_nodes, end_test, level_nodes}
+use Rattle.sip_heavy.specs.AcceptsHeavy.{HeavyQuestion, most_nodes, is_next, is_empty, are_pairs, pair_counts, nodes_above, merged, with_nodes, end_test, level_nodes}
 use Rattle.sip_heavy.specs.TrueNodes.{Spot, level_above}
 use Rattle.sip_heavy.proofs.WrongLevels.{left_over, halves, is_clear, are_heavy, heavy_above, ClearsAbove, level_step}
 
@@ -29,14 +29,14 @@ node_parts true false light r all e = absurd cc
 node_parts false room light r all e = absurd cc
 
 -- what was received is what is taken
-pub taken_same : (q : Asked) (level : ℕ) (known before xs all : List Node) → with_nodes q level known before xs ≡ Ok all → before ++ xs ≡ all
+pub taken_same : (q : HeavyQuestion) (level : ℕ) (known before xs all : List Node) → with_nodes q level known before xs ≡ Ok all → before ++ xs ≡ all
 taken_same q level known before [] all is = let same : before ≡ all = cc in append-nil before ∙ same
 taken_same q level known before (x ∷ xs) all is =
     let parts = node_parts (is_next q level known before x.index) (nat_lt (length known + length before) (most_nodes q)) (level == 0 || nat_lt x.count q.at_least) (with_nodes q level known (before ++ x ∷ []) xs) all is in
     sym (append_assoc before (x ∷ []) xs) ∙ taken_same q level known (before ++ x ∷ []) xs all parts.2
 
 -- above the leaves it is light
-taken_light : (q : Asked) (level : ℕ) (known before xs all : List Node) → (level == 0) ≡ false → list_all (λ y. nat_lt y.count q.at_least) before ≡ true → with_nodes q level known before xs ≡ Ok all
+taken_light : (q : HeavyQuestion) (level : ℕ) (known before xs all : List Node) → (level == 0) ≡ false → list_all (λ y. nat_lt y.count q.at_least) before ≡ true → with_nodes q level known before xs ≡ Ok all
     → list_all (λ y. nat_lt y.count q.at_least) all ≡ true
 taken_light q level known before [] all above light is = let same : before ≡ all = cc in rw (← same) light
 taken_light q level known before (x ∷ xs) all above light is =
@@ -48,7 +48,7 @@ taken_light q level known before (x ∷ xs) all above light is =
     taken_light q level known (before ++ x ∷ []) xs all above
     (list_all-append (λ y. nat_lt y.count q.at_least) before (x ∷ []) ∙ and_from (list_all (λ y. nat_lt y.count q.at_least) before) (nat_lt x.count q.at_least && true) light (and_from (nat_lt x.count q.at_least) true here refl)) parts.2
 
-pub record Passed (q : Asked) (level : ℕ) (known received nodes : List Node) : Type 0 where
+pub record Passed (q : HeavyQuestion) (level : ℕ) (known received nodes : List Node) : Type 0 where
   pub taken : with_nodes q level known [] received ≡ Ok received
   pub same : merged known received ≡ nodes
   pub pairs : are_pairs nodes ≡ true
@@ -61,7 +61,7 @@ end_parts true true false e = absurd cc
 end_parts true false c e = absurd cc
 end_parts false b c e = absurd cc
 
-pub level_passed : (q : Asked) (level : ℕ) (known received nodes : List Node) → level_nodes q level known received ≡ Ok nodes → Passed q level known received nodes
+pub level_passed : (q : HeavyQuestion) (level : ℕ) (known received nodes : List Node) → level_nodes q level known received ≡ Ok nodes → Passed q level known received nodes
 level_passed q level known received nodes is =
     let first = step_passed (with_nodes q level known [] received) (λ all. end_test q level (merged known all) >>= λ _. Ok (merged known all)) nodes is in
     let second = step_passed (end_test q level (merged known first.x)) (λ _. Ok (merged known first.x)) nodes first.then in
@@ -90,7 +90,7 @@ abbrev pub passed : Result (List Node) Reason → Option (List Node)
 passed (Ok nodes) = Some nodes
 passed (Err _) = None
 
-abbrev pub nodes_of : Asked → ℕ → List Node → Option (List Node) → Option (List Node)
+abbrev pub nodes_of : HeavyQuestion → ℕ → List Node → Option (List Node) → Option (List Node)
 nodes_of q level known None = None
 nodes_of q level known (Some received) = passed (level_nodes q level known received)
 
@@ -100,14 +100,14 @@ is_there test (Some nodes) = test nodes
 
 -- The replies up to the one for these challenges pass, and the level that they lead to is clear. So many levels are left, and behind the last one no
 -- reply comes: only the known node is there.
-unfoldable pub clears : ℕ → Asked → ℕ → ℕ → (List ℕ → Option (List Node)) → (ℕ → Spot) → List ℕ → List Node → List ℕ → Bool
+unfoldable pub clears : ℕ → HeavyQuestion → ℕ → ℕ → (List ℕ → Option (List Node)) → (ℕ → Spot) → List ℕ → List Node → List ℕ → Bool
 clears p q zero level strategy truth heavy known v = is_clear p truth heavy known
 clears p q (suc left) level strategy truth heavy known [] = is_there (is_clear p truth heavy) (nodes_of q level known (strategy []))
 clears p q (suc left) level strategy truth heavy known (x ∷ v) =
     is_there (λ nodes. clears p q left (level + 1) (λ w. strategy (x ∷ w)) (level_above p x truth) (halves (left_over nodes heavy)) (nodes_above p x nodes) v) (nodes_of q level known (strategy []))
 
 -- which reply the nodes are of
-pub nodes_from_reply : (q : Asked) (level : ℕ) (known : List Node) (o : Option (List Node)) (nodes : List Node) → nodes_of q level known o ≡ Some nodes → (received : List Node) × ((o ≡ Some received) × Passed q level known received nodes)
+pub nodes_from_reply : (q : HeavyQuestion) (level : ℕ) (known : List Node) (o : Option (List Node)) (nodes : List Node) → nodes_of q level known o ≡ Some nodes → (received : List Node) × ((o ≡ Some received) × Passed q level known received nodes)
 nodes_from_reply q level known None nodes is = absurd (cc)
 nodes_from_reply q level known (Some received) nodes is = (received, (refl, level_passed q level known received nodes (by_result (level_nodes q level known received) is)))
   where
@@ -115,7 +115,7 @@ nodes_from_reply q level known (Some received) nodes is = (received, (refl, leve
     by_result (Ok xs) e = let same : xs ≡ nodes = cc in ap (λ (ys : List Node). Ok ys) same
     by_result (Err reason) e = absurd (cc)
 
-module _ (p : ℕ) (q : Asked) (prime : IsPrime p) (few : q.total < p) where
+module _ (p : ℕ) (q : HeavyQuestion) (prime : IsPrime p) (few : q.total < p) where
   -- where the level above is clear, light nodes were received there
   cleared_above : (left level x : ℕ) (strategy : List ℕ → Option (List Node)) (truth : ℕ → Spot) (heavy : List ℕ) (nodes : List Node)
       → clears p q left (level + 1) strategy (level_above p x truth) (halves (left_over nodes heavy)) (nodes_above p x nodes) [] ≡ true → ClearsAbove p q.at_least truth heavy nodes x

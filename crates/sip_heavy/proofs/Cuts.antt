@@ -6,7 +6,7 @@ use Rattle.std.proofs.lemmas.Bool.{and_parts, cases_Bool, ltb-true, lt-ltb, ne_e
 use Rattle.std.proofs.lemmas.Bool.Decides.{leb_tells}
 use Rattle.std.proofs.lemmas.List.{append-nil}
 use Rattle.sip_wire.specs.declared.message.Node.{Node}
-use Rattle.sip_heavy.specs.AcceptsHeavy.{Asked, most_nodes, width, merged, is_next, with_nodes}
+use Rattle.sip_heavy.specs.AcceptsHeavy.{HeavyQuestion, most_nodes, width, merged, is_next, with_nodes}
 use Rattle.sip_heavy.specs.Rising.{Rises}
 use Rattle.sip_heavy.proofs.Shown.{rises_more}
 
@@ -105,7 +105,7 @@ one_more i x (y ∷ ys) less below =
     let parts = and_parts (nat_lt y.index i) (list_all (λ b. nat_lt b.index i) ys) below in
     rw parts.0 (one_more i x ys less parts.1)
 
-module _ (q : Asked) (level : ℕ) (known : List Node) where
+module _ (q : HeavyQuestion) (level : ℕ) (known : List Node) where
   -- a node above the leaves is light
   abbrev pub is_light : Node → Bool
   is_light x = level == 0 || nat_lt x.count q.at_least

@@ -16,7 +16,7 @@ use Rattle.sip_replies.specs.Replies.{in_round}
 use Rattle.sip_wire.specs.declared.message.Node.{Node}
 use Rattle.sip_wire.specs.declared.message.Reason.{Reason}
 use Rattle.sip_replies.proofs.SameEntries.{same_entries}
-use Rattle.sip_heavy.specs.AcceptsHeavy.{Asked, width, known_after, top_test, heavy_entries, leaves_of, verdict, accepts}
+use Rattle.sip_heavy.specs.AcceptsHeavy.{HeavyQuestion, width, known_after, top_test, heavy_entries, leaves_of, verdict, accepts}
 use Rattle.sip_heavy.specs.Counting.{asked_over, accepts_nodes, are_right}
 use Rattle.sip_heavy.specs.Honest.{heavy_of}
 use Rattle.sip_heavy.specs.Rising.{Rises}
@@ -39,7 +39,7 @@ round_ok j (Ok u) x e = refl
 round_ok j (Err reason) x e = absurd cc
 
 module _ (p d t : ℕ) (numbers : List ℤ) (strategy : List ℕ → Option (List Node)) (prime : IsPrime p) (long : length numbers ≡ 2 ^ d) (strict : All (λ a. pos 0 ≤ℤ a) numbers) (few : nat_abs (int_sum numbers) < p) where
-  abbrev q : Asked
+  abbrev q : HeavyQuestion
   q = asked_over d t numbers
 
   abbrev truth : ℕ → Spot

@@ -28,7 +28,7 @@ use Rattle.sip_replies.proofs.SameEntries.{same_entries}
 use Rattle.sip_replies.specs.SameEntries.{is_same_entry}
 use Rattle.sip_replies.proofs.Unasked.{accepted_asked, accepted_unasked}
 use Rattle.sip_replies.proofs.Passing.{step_passed, round_passed}
-use Rattle.sip_heavy.specs.AcceptsHeavy.{Asked, most_nodes, is_next, with_nodes, top_test, heavy_entries, leaves_of, verdict}
+use Rattle.sip_heavy.specs.AcceptsHeavy.{HeavyQuestion, most_nodes, is_next, with_nodes, top_test, heavy_entries, leaves_of, verdict}
 use Rattle.sip_heavy.specs.Counting.{asked_over, accepts_nodes, are_right, heavy_over, accepts_heavy, leaves_in, said, is_right}
 use Rattle.sip_heavy.specs.Honest.{heavy_of}
 use Rattle.sip_heavy.specs.Protocol.{HeavyState, count_of, heavy_asked, heavy_rules, heavy_finish, reaches}
@@ -79,7 +79,7 @@ no_room true false light r all none e = absurd cc
 no_room false room light r all none e = absurd cc
 
 -- no leaf fits below a threshold above the total
-none_fit : (q : Asked) (xs all : List Node) → q.total < q.at_least → with_nodes q 0 [] [] xs ≡ Ok all → [] ≡ all
+none_fit : (q : HeavyQuestion) (xs all : List Node) → q.total < q.at_least → with_nodes q 0 [] [] xs ≡ Ok all → [] ≡ all
 none_fit q [] all less e = let same : [] ≡ all = cc in same
 none_fit q (x ∷ xs) all less e =
     let most : most_nodes q ≡ 0 = ap (λ n. 2 * n) (div-eq_of_lt less) in
@@ -101,7 +101,7 @@ none_heavy t i (pos k ∷ numbers) strict n sum less =
     rw light (none_heavy t (i + 1) numbers strict.1 rest.0 rest.1 (omega arith))
 
 module _ (version : Version) (p d t : ℕ) (numbers : List ℤ) where
-  abbrev q : Asked
+  abbrev q : HeavyQuestion
   q = asked_over d t numbers
 
   abbrev R : Rules HeavyState

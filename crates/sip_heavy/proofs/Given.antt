@@ -5,8 +5,8 @@ use Rattle.sip_wire.specs.declared.message.Node.{Node}
 use Rattle.sip_wire.specs.declared.message.Reason.{Reason}
 use Rattle.sip_replies.specs.Replies.{Fault}
 use Rattle.sip_replies.proofs.Passing.{same_ok}
-use Rattle.sip_heavy.specs.AcceptsHeavy.{Asked, with_nodes, known_after}
-use Rattle.sip_heavy.specs.Checking.{Kept, Given, HasTaken, AnswersAs, Takes}
+use Rattle.sip_heavy.specs.AcceptsHeavy.{HeavyQuestion, with_nodes, known_after}
+use Rattle.sip_heavy.specs.Checking.{Kept, GivenNodes, HasTaken, AnswersAs, Takes}
 use Rattle.sip_heavy.proofs.Taking.{with_nodes-append}
 
 -- what passed
@@ -23,7 +23,7 @@ refused (Err other) Has reason answer = sym (same_err other reason (sym answer))
     same_err a b e = let f : a ≡ b = cc in ap (λ c. Err c) (sym f)
 
 -- after the same replies the same nodes are known
-pub known_same : (p : ℕ) (q : Asked) (root : ℕ) (challenges : List ℕ) (g h : Given) (old new : Kept) → g.ended ≡ h.ended
+pub known_same : (p : ℕ) (q : HeavyQuestion) (root : ℕ) (challenges : List ℕ) (g h : GivenNodes) (old new : Kept) → g.ended ≡ h.ended
     → HasTaken p q root challenges g old → HasTaken p q root challenges h new → new.known ≡ old.known
 known_same p q root challenges g h old new same before now =
     same_ok {E = Fault} new.known old.known (sym now.ended ∙ ap (known_after p q 0 [] challenges) (sym same) ∙ before.ended)

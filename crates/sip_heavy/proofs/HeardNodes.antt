@@ -11,7 +11,7 @@ use Rattle.sip_wire.specs.declared.version.Version.{Version}
 use Rattle.sip_replies.specs.Protocols.{Rules}
 use Rattle.sip_replies.specs.Replies.{Fault, in_round, learnt, read_reply, run_from}
 use Rattle.sip_replies.proofs.Passing.{step_passed, round_passed}
-use Rattle.sip_heavy.specs.AcceptsHeavy.{Asked, merged, nodes_above, with_nodes, end_test, level_nodes, known_after, leaves_of}
+use Rattle.sip_heavy.specs.AcceptsHeavy.{HeavyQuestion, merged, nodes_above, with_nodes, end_test, level_nodes, known_after, leaves_of}
 use Rattle.sip_heavy.specs.Protocol.{HeavyState, learns, heavy_rules}
 use Rattle.sip_heavy.proofs.ClearedLevels.{taken_same}
 use Rattle.sip_heavy.proofs.AcceptedLevels.{first_there}
@@ -34,7 +34,7 @@ at_level level known leaves = record { level = level; known = known; received = 
 
 -- ---- replies one after another
 
-module _ (version : Version) (p : ℕ) (q : Asked) where
+module _ (version : Version) (p : ℕ) (q : HeavyQuestion) where
   abbrev R : Rules HeavyState
   R = heavy_rules version p q
 

@@ -13,7 +13,7 @@ use Rattle.sip_vector.specs.Trees.{Counted, leaf, up3, augroot}
 use Rattle.sip_vector.proofs.Filters.{as_entry}
 use Rattle.sip_vector.proofs.TreeCounted.{length-up3}
 use Rattle.sip_wire.specs.declared.message.Node.{Node}
-use Rattle.sip_heavy.specs.AcceptsHeavy.{Asked, width, merged, with_nodes, end_test, level_nodes, nodes_above, known_after, top_test, verdict, heavy_entries, leaves_of, is_empty}
+use Rattle.sip_heavy.specs.AcceptsHeavy.{HeavyQuestion, width, merged, with_nodes, end_test, level_nodes, nodes_above, known_after, top_test, verdict, heavy_entries, leaves_of, is_empty}
 use Rattle.sip_heavy.specs.Honest.{Proving, begun, shown_from, honest_lists, CanBeCounted, heavy_of}
 use Rattle.sip_heavy.specs.Rising.{Rises}
 use Rattle.sip_heavy.proofs.Cuts.{ltb_tells, merge_back, filter_rises, cut_apart, cut_long, cut_passes, all_pass}
@@ -49,7 +49,7 @@ some_shown t n (l ∷ []) size sum reached = absurd (omega (arith, size))
 some_shown t n (l ∷ h ∷ []) size sum reached = rw (le-leb t (nat_abs l.count + nat_abs h.count) (omega (arith, sum, reached))) refl
 some_shown t n (l ∷ h ∷ x ∷ level) size sum reached = absurd (omega (arith, size))
 
-module _ (q : Asked) (j : ℕ) (is_leaf : Bool) (level : List Counted) (first : is_leaf ≡ (j == 0)) (below : j < q.depth)
+module _ (q : HeavyQuestion) (j : ℕ) (is_leaf : Bool) (level : List Counted) (first : is_leaf ≡ (j == 0)) (below : j < q.depth)
     (sum : counts level ≡ q.total) (size : length level ≡ width q j) (some : 1 ≤ q.at_least) (reached : q.at_least ≤ q.total) where
   pub received_pass : with_nodes q j (known_of q.at_least is_leaf level) [] (shown_from q.at_least is_leaf 0 level) ≡ Ok (shown_from q.at_least is_leaf 0 level)
   received_pass =
@@ -92,7 +92,7 @@ half_size n level size = size ∙ pow-succ' 2 n ∙ (let twice : 2 * 2 ^ n ≡ 2
 left_levels : (d j n : ℕ) → j + suc n ≡ d → d - j ≡ suc n
 left_levels d j n is = omega (arith, is)
 
-pub climbs : (p : ℕ) (q : Asked) (r : ℕ) (challenges : List ℕ) (j : ℕ) (is_leaf : Bool) (level : List Counted) → 1 ≤ q.at_least → q.at_least ≤ q.total
+pub climbs : (p : ℕ) (q : HeavyQuestion) (r : ℕ) (challenges : List ℕ) (j : ℕ) (is_leaf : Bool) (level : List Counted) → 1 ≤ q.at_least → q.at_least ≤ q.total
     → is_leaf ≡ (j == 0) → j + suc (length challenges) ≡ q.depth → AreCounts level → counts level ≡ q.total → length level ≡ 2 ^ suc (length challenges)
     → known_after p q j (known_of q.at_least is_leaf level) (r ∷ challenges) (honest_lists p (at q.at_least is_leaf level) (r ∷ challenges))
     ≡ Ok (filter (is_heavy q.at_least) (numbered 0 (fold (up3 p) level (r ∷ challenges))))
@@ -169,13 +169,13 @@ pub none_known : (t : ℕ) (xs : List Node) → filter (λ x. not (is_sent t tru
 none_known t [] = refl
 none_known t (x ∷ xs) = none_known t xs
 
-pub top_passes : (q : Asked) (root : ℕ) (x : Counted) (top : List Counted) → top ≡ x ∷ [] → nat_abs x.count ≡ q.total → x.hash ≡ root → q.at_least ≤ q.total
+pub top_passes : (q : HeavyQuestion) (root : ℕ) (x : Counted) (top : List Counted) → top ≡ x ∷ [] → nat_abs x.count ≡ q.total → x.hash ≡ root → q.at_least ≤ q.total
     → top_test q root (filter (is_heavy q.at_least) (numbered 0 top)) ≡ Ok tt
 top_passes q root x top is sum same reached =
     let heavy : nat_lt (nat_abs x.count) q.at_least ≡ false = elim (ltb_tells (nat_abs x.count) q.at_least) [ inl u ↦ absurd (omega (arith, u.1, sum, reached)) | inr u ↦ u.0 ] in
     rw (is, heavy, eq-eqb (nat_abs x.count) q.total sum, eq-eqb x.hash root same) refl
 
-verdict_by : (p : ℕ) (q : Asked) (root : ℕ) (challenges : List ℕ) (replies : List (List Node)) (top : List Node) → known_after p q 0 [] challenges replies ≡ Ok top → top_test q root top ≡ Ok tt
+verdict_by : (p : ℕ) (q : HeavyQuestion) (root : ℕ) (challenges : List ℕ) (replies : List (List Node)) (top : List Node) → known_after p q 0 [] challenges replies ≡ Ok top → top_test q root top ≡ Ok tt
     → verdict p q root challenges replies ≡ Ok (heavy_entries q.at_least (leaves_of replies))
 unfolding verdict
 verdict_by p q root challenges replies top known test = rw (known, test) refl
@@ -183,7 +183,7 @@ verdict_by p q root challenges replies top known test = rw (known, test) refl
 -- ---- the verdict
 
 module _ (p depth t n : ℕ) (numbers : List ℤ) (can : CanBeFound p depth t n numbers) where
-  abbrev pub asked : Asked
+  abbrev pub asked : HeavyQuestion
   asked = record { depth = depth; at_least = t; total = n }
 
   pub total_is : counts (map (leaf p) numbers) ≡ n

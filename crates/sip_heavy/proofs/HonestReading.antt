@@ -24,7 +24,7 @@ use Rattle.sip_replies.specs.declared.check.More.TheVariants as mores
 use Rattle.sip_replies.specs.Protocols.{Rules}
 use Rattle.sip_replies.specs.Replies.{read_reply}
 use Rattle.sip_replies.proofs.Reading.{read_reply-step}
-use Rattle.sip_heavy.specs.AcceptsHeavy.{Asked, most_nodes, is_next, leaf_node, merged, with_nodes, end_test}
+use Rattle.sip_heavy.specs.AcceptsHeavy.{HeavyQuestion, most_nodes, is_next, leaf_node, merged, with_nodes, end_test}
 use Rattle.sip_heavy.specs.Honest.{leaf_frames, node_frames, leaf_of}
 use Rattle.sip_heavy.specs.Protocol.{HeavyState, leaf_nodes, nodes_step, ended, end_step, heavy_step, heavy_rules}
 use Rattle.sip_heavy.proofs.HonestFrames.{IsLeafRow, IsNodeRow, leaves_fit, nodes_fit, end_fits, leaf_rows}
@@ -34,7 +34,7 @@ use Rattle.sip_heavy.proofs.StatedFrames.{with_received}
 -- ---- nodes that pass, in parts
 
 -- nodes that pass are added
-passed_are : (q : Asked) (level : ℕ) (known before xs all : List Node) → with_nodes q level known before xs ≡ Ok all → all ≡ before ++ xs
+passed_are : (q : HeavyQuestion) (level : ℕ) (known before xs all : List Node) → with_nodes q level known before xs ≡ Ok all → all ≡ before ++ xs
 passed_are q level known before [] all e = sym (let same : before ≡ all = cc in same) ∙ sym (append-nil before)
 passed_are q level known before (x ∷ xs) all e =
     by_tests (is_next q level known before x.index) (nat_lt (length known + length before) (most_nodes q)) (level == 0 || nat_lt x.count q.at_least)
@@ -47,11 +47,11 @@ passed_are q level known before (x ∷ xs) all e =
     by_tests true false light later e = absurd cc
     by_tests false room light later e = absurd cc
 
-record Parts (q : Asked) (level : ℕ) (known before front rest all : List Node) : Type 0 where
+record Parts (q : HeavyQuestion) (level : ℕ) (known before front rest all : List Node) : Type 0 where
   pub first : with_nodes q level known before front ≡ Ok (before ++ front)
   pub second : with_nodes q level known (before ++ front) rest ≡ Ok all
 
-parts_pass : (q : Asked) (level : ℕ) (known before front rest all : List Node) → with_nodes q level known before (front ++ rest) ≡ Ok all → Parts q level known before front rest all
+parts_pass : (q : HeavyQuestion) (level : ℕ) (known before front rest all : List Node) → with_nodes q level known before (front ++ rest) ≡ Ok all → Parts q level known before front rest all
 parts_pass q level known before front rest all e = by_first (with_nodes q level known before front) refl (sym (with_nodes-append q level known before front rest) ∙ e)
   where
     by_first : (r : Result (List Node) Reason) → with_nodes q level known before front ≡ r → (r >>= λ ys. with_nodes q level known ys rest) ≡ Ok all → Parts q level known before front rest all
@@ -65,7 +65,7 @@ parts_pass q level known before front rest all e = by_first (with_nodes q level 
 abbrev as_due : HeavyState → Result (List Node) Reason → Result (More × HeavyState) Reason
 as_due s r = r >>= λ all. Ok (mores.Due, record s { received = all })
 
-module _ (version : Version) (p : ℕ) (q : Asked) where
+module _ (version : Version) (p : ℕ) (q : HeavyQuestion) where
   abbrev R : Rules HeavyState
   R = heavy_rules version p q
 

@@ -14,7 +14,7 @@ use Rattle.sip_wire.specs.Versions.{deepest}
 use Rattle.sip_replies.specs.Protocols.{Rules}
 use Rattle.sip_replies.specs.Replies.{read_reply, run_from}
 use Rattle.sip_replies.proofs.Passing.{run_is, run_none}
-use Rattle.sip_heavy.specs.AcceptsHeavy.{Asked, merged, with_nodes, end_test}
+use Rattle.sip_heavy.specs.AcceptsHeavy.{HeavyQuestion, merged, with_nodes, end_test}
 use Rattle.sip_heavy.specs.Honest.{Proving, learnt, is_first, proving, shown_from, opening_frames}
 use Rattle.sip_heavy.specs.Protocol.{HeavyState, heavy_rules}
 use Rattle.sip_heavy.proofs.HeavyPairs.{counts, AreCounts, numbered, children, is_heavy, heavy_is, above_is, above_counts, above_are}
@@ -37,7 +37,7 @@ proving-push p numbers t prefix r =
 -- ---- what is known of a level
 
 -- a level that a prover and a check are at
-pub record Stands (p : ℕ) (q : Asked) (j : ℕ) (is_leaf : Bool) (level : List Counted) : Type 0 where
+pub record Stands (p : ℕ) (q : HeavyQuestion) (j : ℕ) (is_leaf : Bool) (level : List Counted) : Type 0 where
   pub first : is_leaf ≡ (j == 0)
   pub are : AreCounts level
   pub sum : counts level ≡ q.total
@@ -51,10 +51,10 @@ left_levels d j less = omega (arith, less)
 pub later : (j : ℕ) → (j + 1 == 0) ≡ false
 later j = ne_eqb (j + 1) 0 (λ e. absurd (omega (arith, e)))
 
-level_size : (p : ℕ) (q : Asked) (j : ℕ) (is_leaf : Bool) (level : List Counted) → j < q.depth → Stands p q j is_leaf level → length level ≡ 2 ^ suc (q.depth - (j + 1))
+level_size : (p : ℕ) (q : HeavyQuestion) (j : ℕ) (is_leaf : Bool) (level : List Counted) → j < q.depth → Stands p q j is_leaf level → length level ≡ 2 ^ suc (q.depth - (j + 1))
 level_size p q j is_leaf level less stands = stands.size ∙ ap (λ m. 2 ^ m) (left_levels q.depth j less)
 
-stands_above : (p : ℕ) (q : Asked) (j r : ℕ) (is_leaf : Bool) (level : List Counted) → 0 < p → j < q.depth → Stands p q j is_leaf level → Stands p q (j + 1) false (up3 p level r)
+stands_above : (p : ℕ) (q : HeavyQuestion) (j r : ℕ) (is_leaf : Bool) (level : List Counted) → 0 < p → j < q.depth → Stands p q j is_leaf level → Stands p q (j + 1) false (up3 p level r)
 stands_above p q j r is_leaf level some less stands =
     let n : ℕ = q.depth - (j + 1) in
     let size = level_size p q j is_leaf level less stands in
@@ -94,7 +94,7 @@ first_is : (j : ℕ) → true ≡ (j == 0) → j ≡ 0
 first_is zero e = refl
 first_is (suc j) e = absurd (let f = later j in let g : suc j ≡ j + 1 = omega arith in let h : true ≡ (j + 1 == 0) = rw g at e in cc)
 
-module _ (version : Version) (p : ℕ) (q : Asked) (some : 0 < p) (elements : p ≤ m61_modulus) (light : q.total < p) (shallow : q.depth ≤ deepest version) (one : 1 ≤ q.at_least) (reached : q.at_least ≤ q.total) where
+module _ (version : Version) (p : ℕ) (q : HeavyQuestion) (some : 0 < p) (elements : p ≤ m61_modulus) (light : q.total < p) (shallow : q.depth ≤ deepest version) (one : 1 ≤ q.at_least) (reached : q.at_least ≤ q.total) where
   abbrev R : Rules HeavyState
   R = heavy_rules version p q
 

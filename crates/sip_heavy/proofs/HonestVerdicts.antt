@@ -18,7 +18,7 @@ use Rattle.sip_replies.specs.Replies.{read_reply, run, verdict, IsStated, IsAcce
 use Rattle.sip_replies.proofs.Fronts.{reply_front}
 use Rattle.sip_replies.proofs.Running.{run-fault}
 use Rattle.sip_replies.proofs.Turns.{closed_next}
-use Rattle.sip_heavy.specs.AcceptsHeavy.{Asked, top_test, heavy_entries}
+use Rattle.sip_heavy.specs.AcceptsHeavy.{HeavyQuestion, top_test, heavy_entries}
 use Rattle.sip_heavy.specs.Honest.{learnt, proving, shown_from, honest_messages, honest_reply, honest_replies, CanBeSent, heavy_of}
 use Rattle.sip_heavy.specs.Protocol.{HeavyState, HeavyAsked, heavy_rules, heavy_asked, heavy_protocol}
 use Rattle.sip_heavy.proofs.HeavyPairs.{counts, numbered, is_heavy}
@@ -64,7 +64,7 @@ pub asked_of : (version : Version) (p depth t n : ℕ) (numbers : List ℤ) → 
 asked_of version p depth t n numbers can some reached = record { found = found_by p depth t n numbers can.counted some reached; elements = can.elements; shallow = can.shallow }
 
 module _ (version : Version) (p depth t n : ℕ) (numbers : List ℤ) (can : IsAsked version p depth t n numbers) where
-  abbrev q : Asked
+  abbrev q : HeavyQuestion
   q = record { depth = depth; at_least = t; total = n }
 
   abbrev R : Rules HeavyState

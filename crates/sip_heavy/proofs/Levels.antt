@@ -13,8 +13,8 @@ use Rattle.sip_wire.specs.declared.message.Reason.{Reason}
 use Rattle.sip_wire.specs.declared.message.Reason.TheVariants as reasons
 use Rattle.sip_replies.specs.Replies.{Fault, in_round}
 use Rattle.sip_replies.proofs.Passing.{step_passed}
-use Rattle.sip_heavy.specs.AcceptsHeavy.{Asked, most_nodes, width, nodes_below, nodes_from, merged, are_pairs, pair_counts, is_empty, nodes_above, is_next, with_nodes, end_test, level_nodes, known_after, heavy_entries, leaves_of}
-use Rattle.sip_heavy.specs.Checking.{Kept, Given, HasTaken, AnswersAs, asked_of, passing_all, keeping, folded}
+use Rattle.sip_heavy.specs.AcceptsHeavy.{HeavyQuestion, most_nodes, width, nodes_below, nodes_from, merged, are_pairs, pair_counts, is_empty, nodes_above, is_next, with_nodes, end_test, level_nodes, known_after, heavy_entries, leaves_of}
+use Rattle.sip_heavy.specs.Checking.{Kept, GivenNodes, HasTaken, AnswersAs, asked_of, passing_all, keeping, folded}
 use Rattle.sip_heavy.specs.Rising.{Rises}
 use Rattle.sip_heavy.proofs.Merging.{all_below, merges_all, merges_none}
 
@@ -33,7 +33,7 @@ AreNew n known [] = Unit {0}
 AreNew n known (x ∷ xs) = (list_any (λ k. k.index == x.index) known ≡ false) × AreNew n known xs
 
 -- received nodes rise, and are new
-pub received_rise : (q : Asked) (level : ℕ) (known before : List Node) (least : ℕ) (xs all : List Node) → ((i : ℕ) → list_all (λ b. nat_lt b.index i) before ≡ true → least ≤ i)
+pub received_rise : (q : HeavyQuestion) (level : ℕ) (known before : List Node) (least : ℕ) (xs all : List Node) → ((i : ℕ) → list_all (λ b. nat_lt b.index i) before ≡ true → least ≤ i)
     → with_nodes q level known before xs ≡ Ok all → Rises least (width q level) xs × AreNew (width q level) known xs
 received_rise q level known before least [] all above passed = (tt, tt)
 received_rise q level known before least (x ∷ xs) all above passed =
@@ -119,7 +119,7 @@ above_rises p r n least (l ∷ h ∷ xs) pairs rises =
 
 -- ---- one reply more
 
-pub known_after_more : (p : ℕ) (q : Asked) (level : ℕ) (known : List Node) (challenges : List ℕ) (ended : List (List Node)) (received k nodes : List Node)
+pub known_after_more : (p : ℕ) (q : HeavyQuestion) (level : ℕ) (known : List Node) (challenges : List ℕ) (ended : List (List Node)) (received k nodes : List Node)
     → known_after p q level known challenges ended ≡ Ok k → length ended < length challenges → level_nodes q (level + length ended) k received ≡ Ok nodes
     → known_after p q level known challenges (ended ++ received ∷ []) ≡ Ok (nodes_above p (slice_index challenges (length ended)) nodes)
 unfolding known_after
@@ -141,7 +141,7 @@ merged_none [] = refl
 merged_none (x ∷ xs) = ap (λ ys. x ∷ ys) (merged_none xs)
 
 -- they are those of the first reply
-found_next : (p : ℕ) (q : Asked) (challenges : List ℕ) (ended : List (List Node)) (received known : List Node) (level t : ℕ) (found : List Entry) → level ≡ length ended
+found_next : (p : ℕ) (q : HeavyQuestion) (challenges : List ℕ) (ended : List (List Node)) (received known : List Node) (level t : ℕ) (found : List Entry) → level ≡ length ended
     → known_after p q 0 [] challenges ended ≡ Ok known → found ≡ heavy_entries t (leaves_of ended)
     → (if level == 0 then heavy_entries t (merged known received) else found) ≡ heavy_entries t (leaves_of (ended ++ received ∷ []))
 unfolding known_after
@@ -154,7 +154,7 @@ found_next p q challenges (first ∷ ended) received known level t found at is s
 
 -- ---- the end of a level
 
-pub ended_within : (q : Asked) (level : ℕ) (nodes : List Node) → end_test q level nodes ≡ Ok tt → (are_pairs nodes ≡ true) × (list_all (λ c. nat_le c q.total) (pair_counts nodes) ≡ true)
+pub ended_within : (q : HeavyQuestion) (level : ℕ) (nodes : List Node) → end_test q level nodes ≡ Ok tt → (are_pairs nodes ≡ true) × (list_all (λ c. nat_le c q.total) (pair_counts nodes) ≡ true)
 ended_within q level nodes is =
     let outer = three (are_pairs nodes && (nat_lt (level + 1) q.depth || not (is_empty nodes))) (list_all (nat_le q.at_least) (pair_counts nodes)) (list_all (λ c. nat_le c q.total) (pair_counts nodes)) is in
     ((and_parts (are_pairs nodes) (nat_lt (level + 1) q.depth || not (is_empty nodes)) outer.0).0, outer.1)
@@ -165,18 +165,18 @@ ended_within q level nodes is =
     three true false c e = absurd cc
     three false b c e = absurd cc
 
-module _ (p : ℕ) (q : Asked) (root : ℕ) (challenges : List ℕ) (g : Given) (c : Kept) (taken : HasTaken p q root challenges g c) where
+module _ (p : ℕ) (q : HeavyQuestion) (root : ℕ) (challenges : List ℕ) (g : GivenNodes) (c : Kept) (taken : HasTaken p q root challenges g c) where
   pub nodes_are : merged c.known g.received ≡ (passing_all c).nodes
   nodes_are = merges_all c.known g.received c.passed c.nodes taken.merges
 
   pub end_says_so : end_test q c.level (merged c.known g.received) ≡ end_test (asked_of (passing_all c)) c.level (passing_all c).nodes
-  end_says_so = ap (λ (a : Asked). end_test a c.level (merged c.known g.received)) (sym taken.asked) ∙ ap (end_test (asked_of c) c.level) nodes_are
+  end_says_so = ap (λ (a : HeavyQuestion). end_test a c.level (merged c.known g.received)) (sym taken.asked) ∙ ap (end_test (asked_of c) c.level) nodes_are
 
   HasTaken-ended : c.level < length c.challenges → end_test q c.level (merged c.known g.received) ≡ Ok tt
       → HasTaken p q root challenges (record { ended = g.ended ++ g.received ∷ []; received = [] }) (folded p (keeping (passing_all c)))
   HasTaken-ended left is =
       let passed = ended_within q c.level (merged c.known g.received) is in
-      let deep : length c.challenges ≡ q.depth = ap (λ (a : Asked). a.depth) taken.asked in
+      let deep : length c.challenges ≡ q.depth = ap (λ (a : HeavyQuestion). a.depth) taken.asked in
       let nodes = merged c.known g.received in
       let says : level_nodes q c.level c.known g.received ≡ Ok nodes =
       ap (λ (r : Result (List Node) Reason). r >>= λ all. end_test q c.level (merged c.known all) >>= λ _. Ok (merged c.known all)) taken.received
@@ -204,7 +204,7 @@ module _ (p : ℕ) (q : Asked) (root : ℕ) (challenges : List ℕ) (g : Given) 
         last = λ i. refl;
         below = λ i above_it. refl;
         found =
-            ap (λ (a : Asked). if c.level == 0 then heavy_entries a.at_least (passing_all c).nodes else c.found) taken.asked
+            ap (λ (a : HeavyQuestion). if c.level == 0 then heavy_entries a.at_least (passing_all c).nodes else c.found) taken.asked
             ∙ ap (λ ns. if c.level == 0 then heavy_entries q.at_least ns else c.found) (sym nodes_are)
             ∙ found_next p q challenges g.ended g.received c.known c.level q.at_least c.found taken.level taken.ended taken.found;
         rises = subst (λ ns. Rises 0 (width q (c.level + 1)) (nodes_above p (slice_index c.challenges c.level) ns)) nodes_are above;

@@ -17,7 +17,7 @@ use Rattle.sip_replies.specs.declared.check.More.TheVariants as mores
 use Rattle.sip_replies.specs.Protocols.{Rules}
 use Rattle.sip_replies.specs.Replies.{step_says, frame_says, read_from, read_reply}
 use Rattle.sip_replies.proofs.Passing.{at_end_is}
-use Rattle.sip_heavy.specs.AcceptsHeavy.{Asked, most_nodes, is_next, merged, with_nodes, end_test}
+use Rattle.sip_heavy.specs.AcceptsHeavy.{HeavyQuestion, most_nodes, is_next, merged, with_nodes, end_test}
 use Rattle.sip_heavy.specs.Protocol.{HeavyState, leaf_nodes, nodes_step, ended, heavy_step, heavy_rules}
 
 -- ---- what bytes say
@@ -55,26 +55,26 @@ three_tests true true false r after g e = refl
 three_tests true false light r after g e = refl
 three_tests false room light r after g e = refl
 
-with_more : (q : Asked) (level : ℕ) (known before xs ys : List Node) → with_nodes q level known before (xs ++ ys) ≡ (with_nodes q level known before xs >>= λ all. with_nodes q level known all ys)
+with_more : (q : HeavyQuestion) (level : ℕ) (known before xs ys : List Node) → with_nodes q level known before (xs ++ ys) ≡ (with_nodes q level known before xs >>= λ all. with_nodes q level known all ys)
 with_more q level known before [] ys = refl
 with_more q level known before (x ∷ xs) ys =
     three_tests (is_next q level known before x.index) (nat_lt (length known + length before) (most_nodes q)) (level == 0 || nat_lt x.count q.at_least)
     (with_nodes q level known (before ++ x ∷ []) xs) (with_nodes q level known (before ++ x ∷ []) (xs ++ ys)) (λ all. with_nodes q level known all ys) (with_more q level known (before ++ x ∷ []) xs ys)
 
-with_nodes-more : (q : Asked) (level : ℕ) (known before xs ys all more : List Node) → with_nodes q level known before xs ≡ Ok all → with_nodes q level known all ys ≡ Ok more → with_nodes q level known before (xs ++ ys) ≡ Ok more
+with_nodes-more : (q : HeavyQuestion) (level : ℕ) (known before xs ys all more : List Node) → with_nodes q level known before xs ≡ Ok all → with_nodes q level known all ys ≡ Ok more → with_nodes q level known before (xs ++ ys) ≡ Ok more
 with_nodes-more q level known before xs ys all more is others =
     with_more q level known before xs ys ∙ ap (λ (r : Result (List Node) Reason). r >>= λ w. with_nodes q level known w ys) is ∙ others
 
 -- ---- a reply that passes
 
 -- From a state on a reply states these nodes, and they pass all tests.
-pub record Reads (q : Asked) (s : HeavyState) (nodes : List Node) (t : HeavyState) : Type 0 where
+pub record Reads (q : HeavyQuestion) (s : HeavyState) (nodes : List Node) (t : HeavyState) : Type 0 where
   pub all : List Node
   pub taken : with_nodes q s.level s.known s.received nodes ≡ Ok all
   pub ends : end_test q s.level (merged s.known all) ≡ Ok tt
   pub same : ended (record s { received = all }) ≡ t
 
-module _ (version : Version) (p : ℕ) (q : Asked) where
+module _ (version : Version) (p : ℕ) (q : HeavyQuestion) where
   abbrev R : Rules HeavyState
   R = heavy_rules version p q
 

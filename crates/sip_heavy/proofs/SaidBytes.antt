@@ -8,13 +8,13 @@ use Rattle.sip_wire.specs.declared.message.Reason.{Reason}
 use Rattle.sip_wire.specs.declared.version.Version.{Version}
 use Rattle.sip_replies.specs.Protocols.{Rules}
 use Rattle.sip_replies.specs.Replies.{in_round, learnt, run_from, run}
-use Rattle.sip_heavy.specs.AcceptsHeavy.{Asked, merged, nodes_above}
+use Rattle.sip_heavy.specs.AcceptsHeavy.{HeavyQuestion, merged, nodes_above}
 use Rattle.sip_heavy.specs.Counting.{leaves_in}
 use Rattle.sip_heavy.specs.Protocol.{HeavyState, heavy_rules}
 use Rattle.sip_heavy.proofs.ReadNodes.{reply_read}
 use Rattle.sip_heavy.proofs.HeardNodes.{at_level, run_parts, run_none}
 
-module _ (version : Version) (p : ℕ) (q : Asked) where
+module _ (version : Version) (p : ℕ) (q : HeavyQuestion) where
   abbrev R : Rules HeavyState
   R = heavy_rules version p q
 

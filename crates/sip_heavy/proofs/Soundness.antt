@@ -11,7 +11,7 @@ use Rattle.sip_vector.specs.declared.update.Entry.{Entry}
 use Rattle.sip_wire.specs.declared.message.Node.{Node}
 use Rattle.sip_wire.specs.declared.message.Reason.{Reason}
 use Rattle.sip_wire.specs.declared.message.Reason.TheVariants as reasons
-use Rattle.sip_heavy.specs.AcceptsHeavy.{Asked, most_nodes, known_after, are_pairs, is_empty, end_test, nodes_below, pair_counts, joined, nodes_above, heavy_entries}
+use Rattle.sip_heavy.specs.AcceptsHeavy.{HeavyQuestion, most_nodes, known_after, are_pairs, is_empty, end_test, nodes_below, pair_counts, joined, nodes_above, heavy_entries}
 use Rattle.sip_heavy.specs.Checking.{Kept, IsSound, HasTaken, nothing, asked_of, passing, passing_all, folded, with_node, node_test}
 use Rattle.sip_heavy.proofs.Merging.{take_below, length_below}
 
@@ -100,7 +100,7 @@ sound_folded p c sound left within = record {
 }
 
 -- the tests of a level, where the first two pass
-pub end_says : (q : Asked) (level : ℕ) (nodes : List Node) (w : Bool) → (are_pairs nodes && (nat_lt (level + 1) q.depth || not (is_empty nodes))) ≡ true → list_all (nat_le q.at_least) (pair_counts nodes) ≡ true
+pub end_says : (q : HeavyQuestion) (level : ℕ) (nodes : List Node) (w : Bool) → (are_pairs nodes && (nat_lt (level + 1) q.depth || not (is_empty nodes))) ≡ true → list_all (nat_le q.at_least) (pair_counts nodes) ≡ true
     → list_all (λ c. nat_le c q.total) (pair_counts nodes) ≡ w → end_test q level nodes ≡ needs w reasons.Total
 end_says q level nodes w whole heavy within = rw (whole, heavy, within) refl
 
@@ -118,7 +118,7 @@ sound_nothing c level passed fits light known nodes found = record {
   shown = rw found (omega arith);
 }
 
-pub HasTaken-nothing : (p : ℕ) (q : Asked) (root : ℕ) (challenges : List ℕ) (c : Kept) → asked_of c ≡ q → c.most ≡ most_nodes q → c.challenges ≡ challenges → c.hash ≡ root → c.level ≡ 0
+pub HasTaken-nothing : (p : ℕ) (q : HeavyQuestion) (root : ℕ) (challenges : List ℕ) (c : Kept) → asked_of c ≡ q → c.most ≡ most_nodes q → c.challenges ≡ challenges → c.hash ≡ root → c.level ≡ 0
     → c.known ≡ [] → c.nodes ≡ [] → c.passed ≡ 0 → c.last ≡ None → c.found ≡ [] → HasTaken p q root challenges nothing c
 unfolding known_after
 HasTaken-nothing p q root challenges c asked most at for level known nodes passed last found = record {

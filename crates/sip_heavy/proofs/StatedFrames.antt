@@ -21,7 +21,7 @@ use Rattle.sip_replies.specs.declared.check.More.TheVariants as mores
 use Rattle.sip_replies.specs.Protocols.{Rules}
 use Rattle.sip_replies.specs.Replies.{at_end, read_reply, step_says}
 use Rattle.sip_replies.proofs.Reading.{read_reply-step}
-use Rattle.sip_heavy.specs.AcceptsHeavy.{Asked, end_test, merged, with_nodes}
+use Rattle.sip_heavy.specs.AcceptsHeavy.{HeavyQuestion, end_test, merged, with_nodes}
 use Rattle.sip_heavy.specs.Protocol.{HeavyState, end_step, ended, heavy_rules, heavy_step, nodes_step}
 use Rattle.sip_heavy.specs.Stating.{IsFrame, nodes_of, stands_in, stated_reply}
 use Rattle.sip_heavy.proofs.Taking.{with_nodes-append}
@@ -80,7 +80,7 @@ frame_allowed first (messages.Marks v) stands = absurd cc
 frame_allowed first (messages.Power v) stands = absurd cc
 
 -- its step is that of its nodes
-pub frame_step : (q : Asked) (s : HeavyState) (m : Message) → stands_in (s.level == 0) m ≡ true → heavy_step q s m ≡ nodes_step q s (nodes_of m)
+pub frame_step : (q : HeavyQuestion) (s : HeavyState) (m : Message) → stands_in (s.level == 0) m ≡ true → heavy_step q s m ≡ nodes_step q s (nodes_of m)
 frame_step q s (messages.Leaves v) stands = rw stands refl
 frame_step q s (messages.Nodes v) stands = rw (not-true (s.level == 0) stands) refl
 frame_step q s messages.LevelEnd stands = absurd cc
@@ -108,7 +108,7 @@ frame_step q s (messages.Power v) stands = absurd cc
 abbrev pub with_received : HeavyState → List Node → HeavyState
 with_received s xs = record s { received = xs }
 
-module _ (version : Version) (p : ℕ) (q : Asked) where
+module _ (version : Version) (p : ℕ) (q : HeavyQuestion) where
   abbrev R : Rules HeavyState
   R = heavy_rules version p q
 

@@ -13,7 +13,7 @@ use Rattle.sip_wire.specs.declared.message.Reason.{Reason}
 use Rattle.sip_wire.specs.declared.version.Version.{Version}
 use Rattle.sip_replies.specs.Protocols.{Rules}
 use Rattle.sip_replies.specs.Replies.{Fault, accepts, in_round, run_from, verdict}
-use Rattle.sip_heavy.specs.AcceptsHeavy.{Asked, end_test, heavy_entries, known_after, leaves_of, level_nodes, merged, nodes_above, top_test, with_nodes}
+use Rattle.sip_heavy.specs.AcceptsHeavy.{HeavyQuestion, end_test, heavy_entries, known_after, leaves_of, level_nodes, merged, nodes_above, top_test, with_nodes}
 use Rattle.sip_heavy.specs.AcceptsHeavy as heavy
 use Rattle.sip_heavy.specs.Protocol.{HeavyAsked, HeavyState, ended, heavy_finish, heavy_protocol, heavy_rules, learns, reaches}
 use Rattle.sip_heavy.specs.Stating.{AreFrames, as_answer, nodes_of, stated_nodes, stated_replies, stated_reply}
@@ -28,7 +28,7 @@ module _ (asked : HeavyAsked) where
   abbrev p : ℕ
   p = asked.modulus
 
-  abbrev q : Asked
+  abbrev q : HeavyQuestion
   q = asked.query
 
   abbrev R : Rules HeavyState

@@ -11,12 +11,12 @@ use Rattle.sip_wire.specs.declared.message.Node.{Node}
 use Rattle.sip_wire.specs.declared.message.Reason.{Reason}
 use Rattle.sip_wire.specs.declared.message.Reason.TheVariants as reasons
 use Rattle.sip_replies.specs.Rising.{is_above}
-use Rattle.sip_heavy.specs.AcceptsHeavy.{Asked, most_nodes, width, nodes_below, nodes_from, is_next, with_nodes, top_test}
-use Rattle.sip_heavy.specs.Checking.{Kept, Given, HasTaken, AnswersAs, asked_of, passing, with_node, node_test, begins_with}
+use Rattle.sip_heavy.specs.AcceptsHeavy.{HeavyQuestion, most_nodes, width, nodes_below, nodes_from, is_next, with_nodes, top_test}
+use Rattle.sip_heavy.specs.Checking.{Kept, GivenNodes, HasTaken, AnswersAs, asked_of, passing, with_node, node_test, begins_with}
 use Rattle.sip_heavy.proofs.Merging.{drop_below, length_below, merges_next, known_is, from_passed, passed_below, all_lower}
 
 -- nodes are tested one after another
-pub with_nodes-append : (q : Asked) (level : ℕ) (known before xs more : List Node)
+pub with_nodes-append : (q : HeavyQuestion) (level : ℕ) (known before xs more : List Node)
     → with_nodes q level known before (xs ++ more) ≡ (with_nodes q level known before xs >>= λ all. with_nodes q level known all more)
 with_nodes-append q level known before [] more = refl
 with_nodes-append q level known before (x ∷ xs) more =
@@ -58,7 +58,7 @@ above_next (Some l) i j above = elim (leb_tells (suc i) j) [
     by_false false = refl
 
 -- whether a check is spent says nothing of what it has taken
-pub HasTaken-spent : (p : ℕ) (q : Asked) (root : ℕ) (challenges : List ℕ) (g : Given) (c : Kept) (spent : Bool) → HasTaken p q root challenges g c → HasTaken p q root challenges g (record c { spent = spent })
+pub HasTaken-spent : (p : ℕ) (q : HeavyQuestion) (root : ℕ) (challenges : List ℕ) (g : GivenNodes) (c : Kept) (spent : Bool) → HasTaken p q root challenges g c → HasTaken p q root challenges g (record c { spent = spent })
 HasTaken-spent p q root challenges g c spent taken = record {
   asked = taken.asked;
   most = taken.most;
@@ -76,7 +76,7 @@ HasTaken-spent p q root challenges g c spent taken = record {
   found = taken.found;
 }
 
-module _ (p : ℕ) (q : Asked) (root : ℕ) (challenges : List ℕ) (g : Given) (c : Kept) (taken : HasTaken p q root challenges g c) (x : Node) where
+module _ (p : ℕ) (q : HeavyQuestion) (root : ℕ) (challenges : List ℕ) (g : GivenNodes) (c : Kept) (taken : HasTaken p q root challenges g c) (x : Node) where
   abbrev rest : List Node
   rest = drop c.passed c.known
 
@@ -90,7 +90,7 @@ module _ (p : ℕ) (q : Asked) (root : ℕ) (challenges : List ℕ) (g : Given) 
       ≡ (is_above c.last x.index && nat_lt x.index (2 ^ (length c.challenges - c.level)) && not (begins_with x.index (drop (c.passed + length less) c.known)))
   order_is =
       let k = list_any (λ y. y.index == x.index) c.known in
-      let wide : width q c.level ≡ 2 ^ (length c.challenges - c.level) = ap (λ (a : Asked). width a c.level) (sym taken.asked) in
+      let wide : width q c.level ≡ 2 ^ (length c.challenges - c.level) = ap (λ (a : HeavyQuestion). width a c.level) (sym taken.asked) in
       ap (λ a. a && nat_lt x.index (width q c.level) && not k) (taken.last x.index)
       ∙ ap (λ n. is_above c.last x.index && nat_lt x.index n && not k) wide
       ∙ by_above (is_above c.last x.index) (nat_lt x.index (2 ^ (length c.challenges - c.level))) k (begins_with x.index (drop (c.passed + length less) c.known))
@@ -103,7 +103,7 @@ module _ (p : ℕ) (q : Asked) (root : ℕ) (challenges : List ℕ) (g : Given) 
   pub node_says : with_nodes q c.level c.known g.received (x ∷ []) ≡ (node_test (passing c x.index) x >>= λ _. Ok (g.received ++ x ∷ []))
   node_says =
       let room : nat_lt (length c.known + length g.received) (most_nodes q) ≡ nat_lt (length (c.nodes ++ less) + (length c.known - (c.passed + length less))) c.most = rw (size_is, taken.most) refl in
-      let light : (c.level == 0 || nat_lt x.count q.at_least) ≡ (c.level == 0 || nat_lt x.count c.at_least) = ap (λ (a : Asked). c.level == 0 || nat_lt x.count a.at_least) (sym taken.asked) in
+      let light : (c.level == 0 || nat_lt x.count q.at_least) ≡ (c.level == 0 || nat_lt x.count c.at_least) = ap (λ (a : HeavyQuestion). c.level == 0 || nat_lt x.count a.at_least) (sym taken.asked) in
       ap (λ b. needs b reasons.BadOrder >>= λ _. needs (nat_lt (length c.known + length g.received) (most_nodes q)) reasons.TooMany >>= λ _. needs (c.level == 0 || nat_lt x.count q.at_least) reasons.HeavySibling >>= λ _. Ok (g.received ++ x ∷ [])) order_is
       ∙ ap (λ b. needs (is_above c.last x.index && nat_lt x.index (2 ^ (length c.challenges - c.level)) && not (begins_with x.index (drop (c.passed + length less) c.known))) reasons.BadOrder >>= λ _. needs b reasons.TooMany >>= λ _. needs (c.level == 0 || nat_lt x.count q.at_least) reasons.HeavySibling >>= λ _. Ok (g.received ++ x ∷ [])) room
       ∙ ap (λ b. needs (is_above c.last x.index && nat_lt x.index (2 ^ (length c.challenges - c.level)) && not (begins_with x.index (drop (c.passed + length less) c.known))) reasons.BadOrder >>= λ _. needs (nat_lt (length (c.nodes ++ less) + (length c.known - (c.passed + length less))) c.most) reasons.TooMany >>= λ _. needs b reasons.HeavySibling >>= λ _. Ok (g.received ++ x ∷ [])) light
@@ -146,7 +146,7 @@ module _ (p : ℕ) (q : Asked) (root : ℕ) (challenges : List ℕ) (g : Given) 
       (refl, HasTaken-spent p q root challenges (record g { received = g.received ++ x ∷ [] }) new spent (subst (HasTaken p q root challenges (record g { received = g.received ++ x ∷ [] })) (sym same) (HasTaken-node (sym is))))
 
 -- the answer to the end of the check
-pub top_answers : (p : ℕ) (q : Asked) (root : ℕ) (challenges : List ℕ) (g : Given) (c : Kept) → HasTaken p q root challenges g c
+pub top_answers : (p : ℕ) (q : HeavyQuestion) (root : ℕ) (challenges : List ℕ) (g : GivenNodes) (c : Kept) → HasTaken p q root challenges g c
     → (result : Result (Unit {0}) Reason) → result ≡ top_test (asked_of c) c.hash c.known → result ≡ top_test q root c.known
 top_answers p q root challenges g c taken result is =
-    is ∙ ap (λ (a : Asked). top_test a c.hash c.known) taken.asked ∙ ap (λ (h : ℕ). top_test q h c.known) taken.for_root
+    is ∙ ap (λ (a : HeavyQuestion). top_test a c.hash c.known) taken.asked ∙ ap (λ (h : ℕ). top_test q h c.known) taken.for_root

@@ -9,7 +9,7 @@ use Rattle.sip_wire.specs.declared.message.Reason.{Reason}
 use Rattle.sip_wire.specs.declared.message.Reason.TheVariants as reasons
 use Rattle.sip_replies.specs.Replies.{in_round, Fault}
 use Rattle.sip_replies.proofs.Passing.{step_passed, same_ok, round_passed}
-use Rattle.sip_heavy.specs.AcceptsHeavy.{Asked, are_pairs, end_test, is_empty, known_after, level_nodes, merged, nodes_above, width, with_nodes}
+use Rattle.sip_heavy.specs.AcceptsHeavy.{HeavyQuestion, are_pairs, end_test, is_empty, known_after, level_nodes, merged, nodes_above, width, with_nodes}
 use Rattle.sip_heavy.specs.Rising.{Rises}
 use Rattle.sip_heavy.proofs.Levels.{above_rises, ended_within, merged_rises, received_rise}
 use Rattle.sip_heavy.proofs.ClearedLevels.{taken_same}
@@ -17,12 +17,12 @@ use Rattle.sip_heavy.proofs.ClearedLevels.{taken_same}
 -- ---- one level
 
 -- what a level that passes leads to
-pub record Leads (p : ℕ) (q : Asked) (level r : ℕ) (nodes : List Node) : Type 0 where
+pub record Leads (p : ℕ) (q : HeavyQuestion) (level r : ℕ) (nodes : List Node) : Type 0 where
   pub rises : Rises 0 (width q (level + 1)) (nodes_above p r nodes)
   pub whole : are_pairs nodes ≡ true
   pub some : level + 1 ≡ q.depth → is_empty nodes ≡ false
 
-ended_some : (q : Asked) (level : ℕ) (nodes : List Node) → end_test q level nodes ≡ Ok tt → level + 1 ≡ q.depth → is_empty nodes ≡ false
+ended_some : (q : HeavyQuestion) (level : ℕ) (nodes : List Node) → end_test q level nodes ≡ Ok tt → level + 1 ≡ q.depth → is_empty nodes ≡ false
 ended_some q level nodes is last =
     let first = passed_pairs (are_pairs nodes && (nat_lt (level + 1) q.depth || not (is_empty nodes))) _ is in
     let both = and_parts (are_pairs nodes) (nat_lt (level + 1) q.depth || not (is_empty nodes)) first in
@@ -33,7 +33,7 @@ ended_some q level nodes is last =
     passed_pairs true r e = refl
     passed_pairs false r e = absurd cc
 
-level_leads : (p : ℕ) (q : Asked) (level r : ℕ) (known received nodes : List Node) → level < q.depth → Rises 0 (width q level) known → level_nodes q level known received ≡ Ok nodes → Leads p q level r nodes
+level_leads : (p : ℕ) (q : HeavyQuestion) (level r : ℕ) (known received nodes : List Node) → level < q.depth → Rises 0 (width q level) known → level_nodes q level known received ≡ Ok nodes → Leads p q level r nodes
 level_leads p q level r known received nodes left rises is =
     let first = step_passed (with_nodes q level known [] received) (λ all. end_test q level (merged known all) >>= λ _. Ok (merged known all)) nodes is in
     let all : List Node = first.x in
@@ -68,7 +68,7 @@ one_above p r (l ∷ h ∷ m ∷ []) whole some rises =
     absurd (let e = (and_parts _ false whole).1 in cc)
 one_above p r (l ∷ h ∷ m ∷ n ∷ more) whole some rises = absurd (omega (arith, rises.1, rises.2.0, rises.2.1))
 
-top_from : (p : ℕ) (q : Asked) (level : ℕ) (known : List Node) (challenges : List ℕ) (replies : List (List Node)) (last : List Node) → level + length challenges ≡ q.depth → 0 < length challenges → length replies ≡ length challenges
+top_from : (p : ℕ) (q : HeavyQuestion) (level : ℕ) (known : List Node) (challenges : List ℕ) (replies : List (List Node)) (last : List Node) → level + length challenges ≡ q.depth → 0 < length challenges → length replies ≡ length challenges
     → Rises 0 (width q level) known → known_after p q level known challenges replies ≡ Ok last → IsTop last
 unfolding known_after
 top_from p q level known [] replies last deep some same rises is = absurd (omega (arith, some))
@@ -85,6 +85,6 @@ top_from p q level known (r ∷ s ∷ challenges) (received ∷ more) last deep 
     let leads = level_leads p q level r known received parts.x (omega (arith, deep)) rises (round_passed level (level_nodes q level known received) parts.x parts.first) in
     top_from p q (level + 1) (nodes_above p r parts.x) (s ∷ challenges) more last (omega (arith, deep)) (omega arith) (omega (arith, same)) leads.rises parts.then
 
-pub top_is_one : (p : ℕ) (q : Asked) (challenges : List ℕ) (replies : List (List Node)) (last : List Node) → length challenges ≡ q.depth → 0 < length challenges → length replies ≡ length challenges
+pub top_is_one : (p : ℕ) (q : HeavyQuestion) (challenges : List ℕ) (replies : List (List Node)) (last : List Node) → length challenges ≡ q.depth → 0 < length challenges → length replies ≡ length challenges
     → known_after p q 0 [] challenges replies ≡ Ok last → IsTop last
 top_is_one p q challenges replies last deep some same is = top_from p q 0 [] challenges replies last (omega (arith, deep)) some same tt is

@@ -1,6 +1,8 @@
 -- The check of heavy hitters over lists of nodes by level: what is known of a level is merged with
 -- what was received of it, and each pair of siblings becomes a known node of the level above.
-use Rattle.std.specs.Prelude.{ℕ, ◌+◌, ◌-◌, ◌*◌, ◌/◌, ◌%◌, ◌^◌, ◌==◌, Bool, true, false, not, ◌&&◌, ◌||◌, nat_lt, nat_le, pos, nat_abs, List, [], ◌∷◌, ◌++◌, length, Result, Ok, Err, is_ok, if◌then◌else◌}
+use Rattle.std.specs.Prelude.{ℕ, ◌+◌, ◌-◌, ◌*◌, ◌/◌, ◌%◌, ◌^◌, ◌==◌, Bool, true, false, not, ◌&&◌}
+use Rattle.std.specs.Prelude.{◌||◌, nat_lt, nat_le, pos, nat_abs, List, [], ◌∷◌, ◌++◌, length}
+use Rattle.std.specs.Prelude.{Result, Ok, Err, is_ok, if◌then◌else◌}
 use Rattle.std.specs.List.{list_all, list_any}
 use Rattle.sip_vector.specs.Steps.{◌>>=◌, needs}
 use Rattle.sip_vector.specs.Trees.{Counted, parent}
@@ -13,17 +15,17 @@ use Rattle.sip_replies.specs.Replies.{Fault, in_round}
 -- ---- a query
 
 -- the depth, the threshold T, and the side's total n
-pub record Asked : Type 0 where
+pub record HeavyQuestion : Type 0 where
   pub depth : ℕ
   pub at_least : ℕ
   pub total : ℕ
 
 -- the greatest number of nodes of a level, 2 * floor(n / T)
-abbrev pub most_nodes : Asked → ℕ
+abbrev pub most_nodes : HeavyQuestion → ℕ
 most_nodes q = 2 * (q.total / q.at_least)
 
 -- the number of nodes of a level
-abbrev pub width : Asked → ℕ → ℕ
+abbrev pub width : HeavyQuestion → ℕ → ℕ
 width q level = 2 ^ (q.depth - level)
 
 -- ---- a level
@@ -79,13 +81,13 @@ nodes_above p r (l ∷ h ∷ more) = joined p r l h ∷ nodes_above p r more
 -- ---- the tests
 
 -- an index is above all received before it, in the level, and not known
-abbrev pub is_next : Asked → ℕ → List Node → List Node → ℕ → Bool
+abbrev pub is_next : HeavyQuestion → ℕ → List Node → List Node → ℕ → Bool
 is_next q level known before i =
     list_all (λ b. nat_lt b.index i) before && nat_lt i (width q level)
     && not (list_any (λ k. k.index == i) known)
 
 -- the nodes received so far and these, or the first fault among these
-abbrev pub with_nodes : Asked → ℕ → List Node → List Node → List Node
+abbrev pub with_nodes : HeavyQuestion → ℕ → List Node → List Node → List Node
     → Result (List Node) Reason
 with_nodes q level known before [] = Ok before
 with_nodes q level known before (x ∷ xs) = do
@@ -100,7 +102,7 @@ is_empty [] = true
 is_empty (x ∷ xs) = false
 
 -- the tests of a level's nodes at its end
-abbrev pub end_test : Asked → ℕ → List Node → Result (Unit {0}) Reason
+abbrev pub end_test : HeavyQuestion → ℕ → List Node → Result (Unit {0}) Reason
 end_test q level nodes = do
   _ ← needs (are_pairs nodes && (nat_lt (level + 1) q.depth || not (is_empty nodes)))
       reasons.Pairs
@@ -108,7 +110,7 @@ end_test q level nodes = do
   needs (list_all (λ c. nat_le c q.total) (pair_counts nodes)) reasons.Total
 
 -- a level's reply: the nodes of the level, all its tests passed
-abbrev pub level_nodes : Asked → ℕ → List Node → List Node → Result (List Node) Reason
+abbrev pub level_nodes : HeavyQuestion → ℕ → List Node → List Node → Result (List Node) Reason
 level_nodes q level known received = do
   all ← with_nodes q level known [] received
   _ ← end_test q level (merged known all)
@@ -117,7 +119,7 @@ level_nodes q level known received = do
 -- ---- all replies
 
 -- the known nodes after these replies, from a level on whose known nodes are these
-unfoldable pub known_after : ℕ → Asked → ℕ → List Node → List ℕ → List (List Node)
+unfoldable pub known_after : ℕ → HeavyQuestion → ℕ → List Node → List ℕ → List (List Node)
     → Result (List Node) Fault
 known_after p q level known challenges [] = Ok known
 known_after p q level known [] (received ∷ more) = Ok known
@@ -126,7 +128,7 @@ known_after p q level known (r ∷ challenges) (received ∷ more) = do
   known_after p q (level + 1) (nodes_above p r nodes) challenges more
 
 -- the one node of the top has the total's count and the root's hash
-abbrev pub top_test : Asked → ℕ → List Node → Result (Unit {0}) Reason
+abbrev pub top_test : HeavyQuestion → ℕ → List Node → Result (Unit {0}) Reason
 top_test q root [] = Err reasons.Pairs
 top_test q root (x ∷ more) = do
   _ ← needs (x.count == q.total) reasons.Total
@@ -146,7 +148,7 @@ leaves_of [] = []
 leaves_of (leaves ∷ more) = leaves
 
 -- what all replies say, or their first fault
-unfoldable pub verdict : ℕ → Asked → ℕ → List ℕ → List (List Node)
+unfoldable pub verdict : ℕ → HeavyQuestion → ℕ → List ℕ → List (List Node)
     → Result (List Entry) Fault
 verdict p q root challenges replies = do
   top ← known_after p q 0 [] challenges replies
@@ -154,6 +156,6 @@ verdict p q root challenges replies = do
   Ok (heavy_entries q.at_least (leaves_of replies))
 
 -- there is a reply for each challenge, and no fault
-abbrev pub accepts : ℕ → Asked → ℕ → List ℕ → List (List Node) → Bool
+abbrev pub accepts : ℕ → HeavyQuestion → ℕ → List ℕ → List (List Node) → Bool
 accepts p q root challenges replies =
     (length replies == length challenges) && is_ok (verdict p q root challenges replies)

@@ -4,7 +4,7 @@ use Rattle.sip_field.specs.Moduli.{m61_modulus}
 use Rattle.sip_vector.specs.declared.update.Entry.{Entry}
 use Rattle.sip_replies.specs.Protocols.{Phase}
 use Rattle.sip_heavy.specs.AcceptsHeavy.{most_nodes, nodes_above, leaves_of}
-use Rattle.sip_heavy.specs.Checking.{Kept, Given, HasTaken}
+use Rattle.sip_heavy.specs.Checking.{Kept, GivenNodes, HasTaken}
 use Rattle.sip_heavy.specs.Protocol.{HeavyAsked, HeavyState}
 
 -- how far it is
@@ -23,7 +23,7 @@ pub record Knows (s : HeavyState) (c : Kept) : Type 0 where
 pub record HeavyStands (asked : HeavyAsked) (s : HeavyState) (c : Kept)
     (places : List Entry) : Type 0 where
   pub field : asked.modulus ≡ m61_modulus
-  pub given : Given
+  pub given : GivenNodes
   pub taken : HasTaken m61_modulus asked.query asked.root c.challenges given c
   pub level : c.level ≡ s.level
   pub received : given.received ≡ s.received

@@ -1,5 +1,7 @@
 -- What a check keeps, and what it has taken.
-use Rattle.std.specs.Prelude.{◌≡◌, ℕ, ◌+◌, ◌-◌, ◌^◌, ◌<◌, ◌≤◌, ◌==◌, ◌&&◌, ◌||◌, not, Bool, true, false, nat_lt, All, List, [], ◌∷◌, ◌++◌, length, drop, take, slice_index, Option, Some, None, Result, Ok, Err, if◌then◌else◌}
+use Rattle.std.specs.Prelude.{◌≡◌, ℕ, ◌+◌, ◌-◌, ◌^◌, ◌<◌, ◌≤◌, ◌==◌, ◌&&◌, ◌||◌, not, Bool, true}
+use Rattle.std.specs.Prelude.{false, nat_lt, All, List, [], ◌∷◌, ◌++◌, length, drop, take}
+use Rattle.std.specs.Prelude.{slice_index, Option, Some, None, Result, Ok, Err, if◌then◌else◌}
 use Rattle.std.specs.List.{list_all}
 use Rattle.sip_vector.specs.Steps.{◌>>=◌, needs}
 use Rattle.sip_vector.specs.declared.update.Entry.{Entry}
@@ -8,7 +10,9 @@ use Rattle.sip_wire.specs.declared.message.Reason.{Reason}
 use Rattle.sip_wire.specs.declared.message.Reason.TheVariants as reasons
 use Rattle.sip_replies.specs.Rising.{is_above}
 use Rattle.sip_heavy.specs.Rising.{Rises}
-use Rattle.sip_heavy.specs.AcceptsHeavy.{Asked, most_nodes, width, nodes_below, merged, nodes_above, known_after, with_nodes, heavy_entries, leaves_of}
+use Rattle.sip_heavy.specs.AcceptsHeavy.{HeavyQuestion, most_nodes, width, nodes_below, merged}
+use Rattle.sip_heavy.specs.AcceptsHeavy.{nodes_above, known_after, with_nodes, heavy_entries}
+use Rattle.sip_heavy.specs.AcceptsHeavy.{leaves_of}
 
 -- ---- room
 
@@ -92,7 +96,7 @@ with_node c x = record c { nodes = c.nodes ++ x ∷ []; last = Some x.index }
 -- ---- the end of a level
 
 -- the query that a check was started for
-abbrev pub asked_of : Kept → Asked
+abbrev pub asked_of : Kept → HeavyQuestion
 asked_of c =
     record { depth = length c.challenges; at_least = c.at_least; total = c.total }
 
@@ -122,18 +126,18 @@ folded p c = record c {
 -- ---- what was taken
 
 -- the replies whose end was given, and the nodes of the next one so far
-pub record Given : Type 0 where
+pub record GivenNodes : Type 0 where
   pub ended : List (List Node)
   pub received : List Node
 
 -- nothing was given yet
-abbrev pub nothing : Given
+abbrev pub nothing : GivenNodes
 nothing = record { ended = []; received = [] }
 
 -- The check was started for this query, these challenges and this root, and was given these nodes,
 -- which passed. `known` are the nodes known after the replies that ended; `nodes` is what `merged`
 -- makes of these and of those received, whatever comes; and `found` are the heavy leaves.
-pub record HasTaken (p : ℕ) (q : Asked) (root : ℕ) (challenges : List ℕ) (g : Given)
+pub record HasTaken (p : ℕ) (q : HeavyQuestion) (root : ℕ) (challenges : List ℕ) (g : GivenNodes)
     (c : Kept) : Type 0 where
   pub asked : asked_of c ≡ q
   pub most : c.most ≡ most_nodes q
@@ -163,7 +167,7 @@ AnswersAs (Err reason) HasMore result = result ≡ Err reason
 -- behind those received before, whatever the query.
 abbrev pub Takes : ℕ → Kept → List Node → Kept → Result (Unit {0}) Reason → Type 0
 Takes p old xs new result =
-    (q : Asked) (root : ℕ) (challenges : List ℕ) (g : Given)
+    (q : HeavyQuestion) (root : ℕ) (challenges : List ℕ) (g : GivenNodes)
     → HasTaken p q root challenges g old
     → AnswersAs (with_nodes q old.level old.known g.received xs)
     (λ all. HasTaken p q root challenges (record g { received = all }) new) result

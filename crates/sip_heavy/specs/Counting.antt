@@ -13,14 +13,14 @@ use Rattle.sip_vector.specs.Streams.{int_sum}
 use Rattle.sip_vector.specs.Trees.{augroot}
 use Rattle.sip_wire.specs.declared.message.Node.{Node}
 use Rattle.sip_wire.specs.declared.version.Version.{Version}
-use Rattle.sip_heavy.specs.AcceptsHeavy.{Asked, accepts, heavy_entries, leaves_of}
+use Rattle.sip_heavy.specs.AcceptsHeavy.{HeavyQuestion, accepts, heavy_entries, leaves_of}
 use Rattle.sip_heavy.specs.Honest.{heavy_of}
 use Rattle.sip_heavy.specs.Protocol.{HeavyState, count_of, heavy_asked, heavy_protocol, heavy_rules}
 
 -- ---- over lists of nodes
 
 -- the query for the entries of at least t of these numbers, of which there are 2 ^ depth
-abbrev pub asked_over : ℕ → ℕ → List ℤ → Asked
+abbrev pub asked_over : ℕ → ℕ → List ℤ → HeavyQuestion
 asked_over depth t numbers =
     record { depth = depth; at_least = t; total = count_of (int_sum numbers) }
 
@@ -66,8 +66,8 @@ is_right version p depth t numbers replies =
 
 -- ---- on a call
 
--- What a call that writes the answer to a query for these numbers' entries of at least t promises of
--- a helper that lies: `block` are the query's challenges, `taken` the replies of this run, and
+-- What a call that writes the answer to a query for these numbers' entries of at least t promises
+-- of a helper that lies: `block` are the query's challenges, `taken` the replies of this run, and
 -- `written` the answer, if one was written.
 abbrev pub HeavyCountClause : Version → ℕ → ℕ → List ℤ → List ℕ → List (List ℕ)
     → Option (List Entry) → Type 0

@@ -5,7 +5,7 @@ use Rattle.sip_vector.specs.declared.update.Entry.{Entry}
 use Rattle.sip_wire.specs.declared.message.Node.{Node}
 use Rattle.sip_wire.specs.declared.message.Reason.{Reason}
 use Rattle.sip_replies.specs.Replies.{Fault}
-use Rattle.sip_heavy.specs.AcceptsHeavy.{Asked, verdict}
+use Rattle.sip_heavy.specs.AcceptsHeavy.{HeavyQuestion, verdict}
 
 abbrev pub node : ℕ → ℕ → ℕ → Node
 node i h c = record { index = i; hash = h; count = c }
@@ -15,7 +15,7 @@ abbrev pub leaf : ℕ → ℕ → Node
 leaf i c = node i c c
 
 -- the query for entries of at least t, in two levels
-abbrev pub at_least : ℕ → Asked
+abbrev pub at_least : ℕ → HeavyQuestion
 at_least t = record { depth = 2; at_least = t; total = 9 }
 
 -- the two leaves that an honest helper shows for 4

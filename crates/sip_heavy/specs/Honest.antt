@@ -4,7 +4,9 @@
 -- reply has the children, with a count below T, of the nodes with a count of at least T of the
 -- level above, which the next challenge gives. A child with a count of at least T is not shown
 -- there: the reply before says what it is.
-use Rattle.std.specs.Prelude.{◌≡◌, ℕ, ◌+◌, ◌^◌, ◌<◌, ◌≤◌, Bool, true, false, ◌||◌, nat_lt, nat_le, ℤ, pos, ◌≤ℤ◌, int_le, nat_abs, List, [], ◌∷◌, ◌++◌, All, length, map, filter, take, if◌then◌else◌}
+use Rattle.std.specs.Prelude.{◌≡◌, ℕ, ◌+◌, ◌^◌, ◌<◌, ◌≤◌, Bool, true, false, ◌||◌, nat_lt, nat_le}
+use Rattle.std.specs.Prelude.{ℤ, pos, ◌≤ℤ◌, int_le, nat_abs, List, [], ◌∷◌, ◌++◌, All, length, map}
+use Rattle.std.specs.Prelude.{filter, take, if◌then◌else◌}
 use Rattle.std.specs.List.{range_with_len, flat_map}
 use Rattle.sip_field.specs.Moduli.{m61_modulus}
 use Rattle.sip_vector.specs.declared.update.Entry.{Entry}

@@ -3,7 +3,8 @@
 -- Reply 0 is any number of Leaves frames and a LevelEnd frame; each later reply is any number of
 -- Nodes frames and a LevelEnd frame. Where the side's total is below the threshold nothing is
 -- asked, and the answer is empty.
-use Rattle.std.specs.Prelude.{ℕ, ◌+◌, ◌==◌, ℤ, pos, negsuc, Bool, not, nat_le, Some, None, List, [], map, Result, Ok, Err, if◌then◌else◌}
+use Rattle.std.specs.Prelude.{ℕ, ◌+◌, ◌==◌, ℤ, pos, negsuc, Bool, not, nat_le, Some, None, List, []}
+use Rattle.std.specs.Prelude.{map, Result, Ok, Err, if◌then◌else◌}
 use Rattle.sip_vector.specs.Answers.{Answer, pairs}
 use Rattle.sip_vector.specs.Steps.{◌>>=◌, needs}
 use Rattle.sip_wire.specs.declared.kind.Place.TheVariants as places
@@ -17,7 +18,8 @@ use Rattle.sip_wire.specs.declared.version.Version.{Version}
 use Rattle.sip_replies.specs.declared.check.More.{More}
 use Rattle.sip_replies.specs.declared.check.More.TheVariants as mores
 use Rattle.sip_replies.specs.Protocols.{Rules, Protocol}
-use Rattle.sip_heavy.specs.AcceptsHeavy.{Asked, leaf_node, merged, nodes_above, with_nodes, end_test, top_test, heavy_entries}
+use Rattle.sip_heavy.specs.AcceptsHeavy.{HeavyQuestion, leaf_node, merged, nodes_above, with_nodes}
+use Rattle.sip_heavy.specs.AcceptsHeavy.{end_test, top_test, heavy_entries}
 
 -- ---- the rules
 
@@ -40,7 +42,7 @@ abbrev pub leaf_nodes : List Leaf → List Node
 leaf_nodes ls = map (λ l. leaf_node l.item l.count) ls
 
 -- nodes of the level, tested one after another: the reply goes on
-abbrev pub nodes_step : Asked → HeavyState → List Node → Result (More × HeavyState) Reason
+abbrev pub nodes_step : HeavyQuestion → HeavyState → List Node → Result (More × HeavyState) Reason
 nodes_step q s xs =
     with_nodes q s.level s.known s.received xs
     >>= λ all. Ok (mores.Due, record s { received = all })
@@ -55,12 +57,12 @@ ended s = record {
 }
 
 -- the end of a level: it completes a reply
-abbrev pub end_step : Asked → HeavyState → Result (More × HeavyState) Reason
+abbrev pub end_step : HeavyQuestion → HeavyState → Result (More × HeavyState) Reason
 end_step q s =
     end_test q s.level (merged s.known s.received) >>= λ _. Ok (mores.Complete, ended s)
 
 -- one frame
-abbrev pub heavy_step : Asked → HeavyState → Message → Result (More × HeavyState) Reason
+abbrev pub heavy_step : HeavyQuestion → HeavyState → Message → Result (More × HeavyState) Reason
 heavy_step q s (messages.Leaves v) =
     needs (s.level == 0) reasons.BadKind >>= λ _. nodes_step q s (leaf_nodes v.items)
 heavy_step q s (messages.Nodes v) =
@@ -74,7 +76,7 @@ abbrev pub learns : ℕ → HeavyState → ℕ → HeavyState
 learns p s r = record s { known = nodes_above p r s.known }
 
 -- How the replies to a query for heavy hitters are read, modulo p.
-abbrev pub heavy_rules : Version → ℕ → Asked → Rules HeavyState
+abbrev pub heavy_rules : Version → ℕ → HeavyQuestion → Rules HeavyState
 heavy_rules version p q = record {
   version = version;
   start = nothing_came;
@@ -91,7 +93,7 @@ pub record HeavyAsked : Type 0 where
   pub version : Version
   pub modulus : ℕ
   pub root : ℕ
-  pub query : Asked
+  pub query : HeavyQuestion
 
 -- a total as a count: a negative one is none
 abbrev pub count_of : ℤ → ℕ
@@ -108,7 +110,7 @@ heavy_asked version p hash total depth at_least = record {
 }
 
 -- the total reaches the threshold: else nothing is asked
-abbrev pub reaches : Asked → Bool
+abbrev pub reaches : HeavyQuestion → Bool
 reaches q = nat_le q.at_least q.total
 
 -- the heavy leaves, where the node of the top is the side's own root

@@ -1,6 +1,7 @@
 -- A level kept by its nodes that are not zero. Only the contracts of private functions cite these
 -- definitions.
-use Rattle.std.specs.Prelude.{ℕ, zero, suc, ◌+◌, ◌-◌, ◌/◌, ◌%◌, ◌^◌, ◌<◌, ◌≤◌, ◌==◌, Bool, nat_le, pos, nat_abs, List, [], ◌∷◌, ◌++◌, All, filter, sum_by, if◌then◌else◌}
+use Rattle.std.specs.Prelude.{ℕ, zero, suc, ◌+◌, ◌-◌, ◌/◌, ◌%◌, ◌^◌, ◌<◌, ◌≤◌, ◌==◌, Bool, nat_le}
+use Rattle.std.specs.Prelude.{pos, nat_abs, List, [], ◌∷◌, ◌++◌, All, filter, sum_by, if◌then◌else◌}
 use Rattle.sip_field.specs.Residue.{residue}
 use Rattle.sip_vector.specs.Limits.{most_depth}
 use Rattle.sip_vector.specs.Trees.{Counted}

@@ -1,10 +1,16 @@
 //! The verifier's check of heavy hitters, level by level in reserved space.
 
-ghost use Rattle.std.specs.Prelude.{◌≡◌, ℕ, ◌+◌, ◌-◌, ◌*◌, ◌/◌, ◌%◌, ◌^◌, ◌<◌, ◌≤◌, ◌==◌, ◌&&◌, ◌||◌, not, true, false, nat_lt, nat_le, nat_abs, pos, ◌≤ℤ◌, slice_index, List, [], ◌∷◌, ◌++◌, length, drop, is_err, IfOk};
+ghost use Rattle.std.specs.Prelude.{◌≡◌, ℕ, ◌+◌, ◌-◌, ◌*◌, ◌/◌, ◌%◌, ◌^◌, ◌<◌, ◌≤◌, ◌==◌, ◌&&◌};
+ghost use Rattle.std.specs.Prelude.{◌||◌, not, true, false, nat_lt, nat_le, nat_abs, pos, ◌≤ℤ◌};
+ghost use Rattle.std.specs.Prelude.{slice_index, List, [], ◌∷◌, ◌++◌, length, drop, is_err, IfOk};
 ghost use Rattle.std.specs.List.{list_all};
 ghost use Rattle.sip_replies.specs.Rising.{is_above};
-ghost use Rattle.sip_heavy.specs.AcceptsHeavy.{Asked, are_pairs, end_test, is_empty, leaf_node, merged, nodes_above, pair_counts, top_test};
-ghost use Rattle.sip_heavy.specs.Checking.{Advances, AnswersAs, Begun, Given, HasTaken, Kept, asked_of, begins_with, folded, keeping, node_test, Takes, nothing, passing, passing_all, with_node};
+ghost use Rattle.sip_heavy.specs.AcceptsHeavy.{HeavyQuestion, are_pairs, end_test, is_empty};
+ghost use Rattle.sip_heavy.specs.AcceptsHeavy.{leaf_node, merged, nodes_above, pair_counts};
+ghost use Rattle.sip_heavy.specs.AcceptsHeavy.{top_test};
+ghost use Rattle.sip_heavy.specs.Checking.{Advances, AnswersAs, Begun, GivenNodes, HasTaken, Kept};
+ghost use Rattle.sip_heavy.specs.Checking.{asked_of, begins_with, folded, keeping, node_test};
+ghost use Rattle.sip_heavy.specs.Checking.{Takes, nothing, passing, passing_all, with_node};
 
 use crate::level::{are_heavy, are_pairs, are_within, fold_pairs, move_below, put_heavy};
 use crate::space::HeavySpace;
@@ -102,7 +108,7 @@ impl<F: Field, const CAP: usize> HeavyCheck<F, CAP> {
         requires least { 1 ≤ at_least }
         requires total { pos at_least ≤ℤ root.now.total }
         requires room { 2 * (nat_abs root.now.total / at_least) ≤ space.nodes }
-        ensures taken { let asked : Asked = record {
+        ensures taken { let asked : HeavyQuestion = record {
           depth = length root.now.seat;
           at_least = at_least;
           total = nat_abs root.now.total;
@@ -123,7 +129,7 @@ impl<F: Field, const CAP: usize> HeavyCheck<F, CAP> {
         requires least { 1 ≤ at_least }
         requires small { total < 2 ^ 61 }
         requires room { 2 * (total / at_least) ≤ space.nodes }
-        ensures taken { let asked : Asked = record {
+        ensures taken { let asked : HeavyQuestion = record {
           depth = length root.now.seat;
           at_least = at_least;
           total = total;
@@ -211,13 +217,13 @@ impl<F: Field, const CAP: usize> HeavyCheck<F, CAP> {
     pub fn level_end(&mut self) -> Result<(), Reason>
         requires unspent { self.old.spent ≡ false }
         requires left { self.old.level < length self.old.challenges }
-        ensures answers { (q : Asked) (root : ℕ) (challenges : List ℕ) (g : Given)
+        ensures answers { (q : HeavyQuestion) (root : ℕ) (challenges : List ℕ) (g : GivenNodes)
             → HasTaken F.MODULUS q root challenges g self.old
             → AnswersAs (end_test q self.old.level (merged self.old.known g.received))
             (λ _. HasTaken F.MODULUS q root challenges
             (record { ended = g.ended ++ g.received ∷ []; received = [] }) self.new) result }
         ensures advances { IfOk result (λ _. Advances self.old self.new 1 0) }
-        ensures known { (q : Asked) (root : ℕ) (challenges : List ℕ) (g : Given)
+        ensures known { (q : HeavyQuestion) (root : ℕ) (challenges : List ℕ) (g : GivenNodes)
             → HasTaken F.MODULUS q root challenges g self.old
             → IfOk result (λ _. self.new.known ≡ nodes_above F.MODULUS
             (slice_index self.old.challenges self.old.level)
@@ -245,7 +251,7 @@ impl<F: Field, const CAP: usize> HeavyCheck<F, CAP> {
         requires left { self.old.level < length self.old.challenges }
         ensures challenge { F.number result ≡ slice_index self.old.challenges self.old.revealed }
         ensures revealed { self.new ≡ record self.old { revealed = self.old.revealed + 1 } }
-        ensures taken { (q : Asked) (root : ℕ) (challenges : List ℕ) (g : Given)
+        ensures taken { (q : HeavyQuestion) (root : ℕ) (challenges : List ℕ) (g : GivenNodes)
             → HasTaken F.MODULUS q root challenges g self.old
             → HasTaken F.MODULUS q root challenges g self.new }
     {
@@ -260,11 +266,11 @@ impl<F: Field, const CAP: usize> HeavyCheck<F, CAP> {
     pub fn finish(&mut self) -> Result<(), Reason>
         requires unspent { self.old.spent ≡ false }
         requires whole { self.old.level ≡ length self.old.challenges }
-        ensures answers { (q : Asked) (root : ℕ) (challenges : List ℕ) (g : Given)
+        ensures answers { (q : HeavyQuestion) (root : ℕ) (challenges : List ℕ) (g : GivenNodes)
             → HasTaken F.MODULUS q root challenges g self.old
             → result ≡ top_test q root self.old.known }
         ensures spent { self.new ≡ record self.old { spent = is_err result } }
-        ensures taken { (q : Asked) (root : ℕ) (challenges : List ℕ) (g : Given)
+        ensures taken { (q : HeavyQuestion) (root : ℕ) (challenges : List ℕ) (g : GivenNodes)
             → HasTaken F.MODULUS q root challenges g self.old
             → HasTaken F.MODULUS q root challenges g self.new }
     {

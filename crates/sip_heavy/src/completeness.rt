@@ -1,7 +1,8 @@
 //! Laws: honest replies are accepted, and what they state is the answer. These functions do
 //! nothing: each contract is a fact that holds.
 
-ghost use Rattle.std.specs.Prelude.{◌≡◌, ℕ, ◌+◌, ◌<◌, ◌≤◌, nat_le, ℤ, pos, ◌≤ℤ◌, All, IsTrue, List, [], ◌∷◌, ◌++◌, length, filter, slice_get, Some, None, Ok};
+ghost use Rattle.std.specs.Prelude.{◌≡◌, ℕ, ◌+◌, ◌<◌, ◌≤◌, nat_le, ℤ, pos, ◌≤ℤ◌, All, IsTrue, List};
+ghost use Rattle.std.specs.Prelude.{[], ◌∷◌, ◌++◌, length, filter, slice_get, Some, None, Ok};
 ghost use Rattle.sip_field.specs.Moduli.{m61_modulus};
 ghost use Rattle.sip_vector.specs.declared.query.Query.TheVariants as queries;
 ghost use Rattle.sip_vector.specs.declared.update.Side.{Side as AnySide};
@@ -17,7 +18,9 @@ ghost use Rattle.sip_wire.specs.declared.version.Version.{Version};
 ghost use Rattle.sip_wire.specs.declared.version.Version.TheVariants.{One, Two};
 ghost use Rattle.sip_replies.specs.Replies.{IsAccepted, IsUnfinished};
 ghost use Rattle.sip_heavy.specs.AcceptsHeavy.{verdict};
-ghost use Rattle.sip_heavy.specs.Honest.{Proving, begun, learnt, proving, its_nodes, honest_lists, honest_messages, honest_reply, honest_replies, heavy_of, CanBeCounted, CanBeSent};
+ghost use Rattle.sip_heavy.specs.Honest.{Proving, begun, learnt, proving, its_nodes, honest_lists};
+ghost use Rattle.sip_heavy.specs.Honest.{honest_messages, honest_reply, honest_replies, heavy_of};
+ghost use Rattle.sip_heavy.specs.Honest.{CanBeCounted, CanBeSent};
 ghost use Rattle.sip_heavy.specs.HonestExamples.{level_end, reply_0, reply_1};
 ghost use Rattle.sip_heavy.specs.Protocol.{heavy_asked, heavy_protocol, heavy_rules};
 

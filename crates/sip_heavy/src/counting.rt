@@ -2,7 +2,9 @@
 //! that holds.
 #![tactic(auto, unfolding(crate::specs::AcceptsHeavy::verdict, crate::specs::AcceptsHeavy::known_after, sip_counts::specs::Counts::sum_below, sip_counts::specs::Counts::count_below, sip_counts::specs::Counts::counted_from, sip_counts::specs::Counts::counted, sip_counts::specs::Strategies::takes_wrong))]
 
-ghost use Rattle.std.specs.Prelude.{◌≡◌, ◌↔◌, ℕ, ◌*◌, ◌-◌, ◌^◌, ◌<◌, ◌≤◌, ◌≤ℤ◌, true, false, nat_lt, ℤ, pos, nat_abs, Option, Some, List, [], ◌∷◌, length, All};
+ghost use Rattle.std.specs.Prelude.{◌≡◌, ◌↔◌, ℕ, ◌*◌, ◌-◌, ◌^◌, ◌<◌, ◌≤◌, ◌≤ℤ◌, true, false};
+ghost use Rattle.std.specs.Prelude.{nat_lt, ℤ, pos, nat_abs, Option, Some, List, [], ◌∷◌, length};
+ghost use Rattle.std.specs.Prelude.{All};
 ghost use Rattle.std.specs.List.{list_all};
 ghost use Rattle.sip_field.specs.Moduli.{m61_modulus};
 ghost use Rattle.sip_field.specs.Prime.{IsPrime};
@@ -19,7 +21,8 @@ ghost use Rattle.sip_wire.specs.declared.version.Version.{Version};
 ghost use Rattle.sip_replies.specs.Replies.{IsAccepted};
 ghost use Rattle.sip_heavy.specs.AcceptsHeavy.{are_pairs, nodes_above, pair_counts};
 ghost use Rattle.sip_heavy.specs.TrueNodes.{Spot, are_true, level_above};
-ghost use Rattle.sip_heavy.specs.Counting.{accepts_heavy, accepts_nodes, are_right, heavy_over, is_right, said, HeavyCountClause};
+ghost use Rattle.sip_heavy.specs.Counting.{accepts_heavy, accepts_nodes, are_right, heavy_over};
+ghost use Rattle.sip_heavy.specs.Counting.{is_right, said, HeavyCountClause};
 ghost use Rattle.sip_heavy.specs.Honest.{heavy_of};
 ghost use Rattle.sip_heavy.specs.CountedExamples.{misplaced, says_first};
 

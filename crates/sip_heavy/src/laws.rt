@@ -2,7 +2,8 @@
 //! holds.
 #![tactic(auto, unfolding(crate::specs::AcceptsHeavy::verdict, crate::specs::AcceptsHeavy::known_after))]
 
-ghost use Rattle.std.specs.Prelude.{◌≡◌, ℕ, ◌+◌, ◌<◌, ◌≤◌, ◌==◌, true, List, [], ◌∷◌, ◌++◌, length, All, Ok, pos};
+ghost use Rattle.std.specs.Prelude.{◌≡◌, ℕ, ◌+◌, ◌<◌, ◌≤◌, ◌==◌, true, List, [], ◌∷◌, ◌++◌, length};
+ghost use Rattle.std.specs.Prelude.{All, Ok, pos};
 ghost use Rattle.std.specs.List.{flat_map};
 ghost use Rattle.sip_field.specs.Moduli.{m61_modulus};
 ghost use Rattle.sip_vector.specs.Examples.{four};
@@ -15,9 +16,12 @@ ghost use Rattle.sip_wire.specs.declared.message.Message.TheVariants as messages
 ghost use Rattle.sip_wire.specs.declared.message.Node.{Node as AnyNode};
 ghost use Rattle.sip_replies.specs.Replies.{IsAccepted, accepts, read_reply, verdict};
 ghost use Rattle.sip_heavy.specs.AcceptsHeavy as heavy;
-ghost use Rattle.sip_heavy.specs.Protocol.{HeavyAsked, HeavyState, heavy_protocol, heavy_rules, reaches};
-ghost use Rattle.sip_heavy.specs.Stating.{AreFrames, IsFrame, States, as_answer, nodes_of, stated_nodes, stated_replies, then_ended, then_read};
-ghost use Rattle.sip_heavy.specs.AcceptsHeavy.{Asked, end_test, known_after, merged, nodes_above, with_nodes};
+ghost use Rattle.sip_heavy.specs.Protocol.{HeavyAsked, HeavyState, heavy_protocol, heavy_rules};
+ghost use Rattle.sip_heavy.specs.Protocol.{reaches};
+ghost use Rattle.sip_heavy.specs.Stating.{AreFrames, IsFrame, States, as_answer, nodes_of};
+ghost use Rattle.sip_heavy.specs.Stating.{stated_nodes, stated_replies, then_ended, then_read};
+ghost use Rattle.sip_heavy.specs.AcceptsHeavy.{HeavyQuestion, end_test, known_after, merged};
+ghost use Rattle.sip_heavy.specs.AcceptsHeavy.{nodes_above, with_nodes};
 ghost use Rattle.sip_heavy.specs.Examples.{fault, leaf, node, pair, verdict_of};
 ghost use Rattle.sip_wire.specs.declared.message.Reason.TheVariants as reasons;
 
@@ -62,7 +66,7 @@ pub fn faults_of_the_nodes()
 /// After a reply for each level that passes, one node is known, and it stands at index 0: it is the
 /// node that the tests behind the last reply look at.
 pub fn one_node_is_known_in_the_end()
-    ensures { (p : ℕ) (q : Asked) (challenges : List ℕ) (replies : List (List AnyNode))
+    ensures { (p : ℕ) (q : HeavyQuestion) (challenges : List ℕ) (replies : List (List AnyNode))
         (known : List AnyNode) → length challenges ≡ q.depth → 0 < length challenges
         → length replies ≡ length challenges
         → known_after p q 0 [] challenges replies ≡ Ok known

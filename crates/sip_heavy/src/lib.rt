@@ -60,16 +60,16 @@
 //! and a search for each node that is shown.
 #![tactic(auto)]
 
-mod asking;
 mod check;
 pub mod counting;
+mod heavy_asking;
 pub mod laws;
 mod level;
 pub mod shares;
 mod space;
 
-pub use asking::HeavyAsking;
 pub use check::HeavyCheck;
+pub use heavy_asking::HeavyAsking;
 pub use space::HeavySpace;
 
 // The honest side.

@@ -1,6 +1,7 @@
 //! The honest side of a check: what is shown of each level.
 
-ghost use Rattle.std.specs.Prelude.{◌≡◌, ◌*◌, ◌^◌, ◌<◌, ◌≤◌, ◌↔◌, pos, ◌≤ℤ◌, nat_le, All, filter, length, slice_get, IfOk, IfSome};
+ghost use Rattle.std.specs.Prelude.{◌≡◌, ◌*◌, ◌^◌, ◌<◌, ◌≤◌, ◌↔◌, pos, ◌≤ℤ◌, nat_le, All, filter};
+ghost use Rattle.std.specs.Prelude.{length, slice_get, IfOk, IfSome};
 ghost use Rattle.std.specs.Option.{option_map};
 ghost use Rattle.sip_vector.specs.Limits.{most_depth};
 ghost use Rattle.sip_heavy.specs.Honest.{begun, learnt, its_nodes, node_of};

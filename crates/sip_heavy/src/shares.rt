@@ -1,7 +1,8 @@
 //! Shares of a total as thresholds. This function does nothing: its contract is a fact that holds.
 #![tactic(auto)]
 
-ghost use Rattle.std.specs.Prelude.{◌≡◌, ℕ, ◌+◌, ◌-◌, ◌*◌, ◌/◌, ◌≤◌, ◌≤ℤ◌, if◌then◌else◌, int_le, filter, ℤ, pos, nat_abs, List, All};
+ghost use Rattle.std.specs.Prelude.{◌≡◌, ℕ, ◌+◌, ◌-◌, ◌*◌, ◌/◌, ◌≤◌, ◌≤ℤ◌, if◌then◌else◌, int_le};
+ghost use Rattle.std.specs.Prelude.{filter, ℤ, pos, nat_abs, List, All};
 ghost use Rattle.sip_vector.specs.Answers.{entries, is_shared};
 ghost use Rattle.sip_vector.specs.Streams.{int_sum};
 ghost use Rattle.sip_heavy.specs.Honest.{heavy_of};

@@ -1,6 +1,7 @@
 //! A level kept by its nodes that are not zero.
 
-ghost use Rattle.std.specs.Prelude.{◌≡◌, ℕ, ◌/◌, ◌^◌, ◌<◌, ◌≤◌, pos, ◌≤ℤ◌, All, length, map, drop, ◌∷◌, ◌++◌, slice_get, IfOk};
+ghost use Rattle.std.specs.Prelude.{◌≡◌, ℕ, ◌/◌, ◌^◌, ◌<◌, ◌≤◌, pos, ◌≤ℤ◌, All, length, map, drop};
+ghost use Rattle.std.specs.Prelude.{◌∷◌, ◌++◌, slice_get, IfOk};
 ghost use Rattle.std.specs.Prelude.{Bool as AnyBool};
 ghost use Rattle.sip_field.specs.Residue.{product_mod};
 ghost use Rattle.sip_vector.specs.Vectors.{nonzero};

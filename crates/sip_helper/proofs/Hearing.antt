@@ -22,7 +22,7 @@ use Rattle.sip_wire.specs.declared.version.Version.TheVariants.{One, Two}
 use Rattle.sip_wire.specs.Spelling.{fits, has_room, all_hold}
 use Rattle.sip_wire.specs.Table.{most_queries, shape}
 use Rattle.sip_wire.specs.Versions.{deepest, index_width, version_at}
-use Rattle.sip_helper.specs.declared.asked.Asked.{Asked}
+use Rattle.sip_helper.specs.declared.asked.QueryUnderWay.{QueryUnderWay}
 use Rattle.sip_helper.specs.declared.heard.Heard.{Heard}
 use Rattle.sip_helper.specs.Vectors.{Vectors}
 use Rattle.sip_helper.specs.declared.vectors.Weights.{Weights}
@@ -136,14 +136,14 @@ others_out s (messages.Marks v) a b c d e f = refl
 others_out s (messages.Power v) a b c d e f = refl
 
 -- the open query changed, and still stands
-pub kept_with : (version : Version) (heard : Heard) (weights : Weights) (vectors : Option Vectors) (queries : ℕ) (asked : Option Asked) (old new : Asked)
+pub kept_with : (version : Version) (heard : Heard) (weights : Weights) (vectors : Option Vectors) (queries : ℕ) (asked : Option QueryUnderWay) (old new : QueryUnderWay)
     → IsCoherent version heard weights vectors queries asked → asked ≡ Some old → (CanReply (depth_of heard) vectors old → CanReply (depth_of heard) vectors new) → IsCoherent version heard weights vectors queries (Some new)
 kept_with version heard weights vectors queries asked old new kept is still =
     let was = subst (IsCoherent version heard weights vectors queries) is kept in
     record { deep = was.deep; light = was.light; none = was.none; are = was.are; few = was.few; behind = was.behind; stands = still was.stands }
 
 -- an opening was heard: there are no queries yet, and the vectors are zero
-pub kept_open : (old version : Version) (heard : Heard) (weights : Weights) (vectors begun : Option Vectors) (queries : ℕ) (asked : Option Asked) (depth : ℕ)
+pub kept_open : (old version : Version) (heard : Heard) (weights : Weights) (vectors begun : Option Vectors) (queries : ℕ) (asked : Option QueryUnderWay) (depth : ℕ)
     → IsCoherent old heard weights vectors queries asked → heard ≡ Nothing → depth ≤ deepest version → IfSome begun (λ v. v ≡ zero_vectors depth) → IsCoherent version (Part depth) weights begun queries asked
 kept_open old version (Part d) weights vectors begun queries asked depth kept is deep zero = absurd cc
 kept_open old version (Whole d) weights vectors begun queries asked depth kept is deep zero = absurd cc
@@ -167,11 +167,11 @@ kept_open old version Nothing weights vectors begun queries asked depth kept is 
     zeros None zero = tt
     zeros (Some v) zero = subst (HaveWeights depth weights) (sym zero) (record { first = refl; second = refl; weights = sym (kept.none refl) })
 
-    none_open : (a : Option Asked) → IfSome a (λ _. Nothing ≡ Whole 0) → IfSome a (λ _. Part depth ≡ Whole depth)
+    none_open : (a : Option QueryUnderWay) → IfSome a (λ _. Nothing ≡ Whole 0) → IfSome a (λ _. Part depth ≡ Whole depth)
     none_open None h = tt
     none_open (Some a) h = absurd (nothing_or_whole 0 h)
 
-    none_stands : (a : Option Asked) → IfSome a (λ _. Nothing ≡ Whole 0) → IfSome a (CanReply depth begun)
+    none_stands : (a : Option QueryUnderWay) → IfSome a (λ _. Nothing ≡ Whole 0) → IfSome a (CanReply depth begun)
     none_stands None h = tt
     none_stands (Some a) h = absurd (nothing_or_whole 0 h)
 
@@ -193,7 +193,7 @@ are_grown depth w us vectors grown true are is = subst (λ (x : Option Vectors).
 are_grown depth w us None grown false are is = subst (λ (x : Option Vectors). IfSome x (HaveWeights depth (weights_after w us))) (sym is) tt
 are_grown depth w us (Some v) grown false are is = subst (λ (x : Option Vectors). IfSome x (HaveWeights depth (weights_after w us))) (sym is) (are_after depth w v us are)
 
-none_behind : (d : ℕ) (vectors : Option Vectors) (asked : Option Asked) → IfSome asked (λ _. Part d ≡ Whole d) → IfSome asked (CanReply d vectors)
+none_behind : (d : ℕ) (vectors : Option Vectors) (asked : Option QueryUnderWay) → IfSome asked (λ _. Part d ≡ Whole d) → IfSome asked (CanReply d vectors)
 none_behind d vectors None h = tt
 none_behind d vectors (Some a) h = absurd (part_or_whole d h)
   where
@@ -201,7 +201,7 @@ none_behind d vectors (Some a) h = absurd (part_or_whole d h)
     part_or_whole k e = cc
 
 -- updates were heard: there is no open query, and the vectors have the new weights
-pub kept_grown : (version : Version) (heard : Heard) (weights : Weights) (vectors : Option Vectors) (queries : ℕ) (asked : Option Asked) (depth : ℕ) (us : List Update) (next : Weights) (grown : Option Vectors)
+pub kept_grown : (version : Version) (heard : Heard) (weights : Weights) (vectors : Option Vectors) (queries : ℕ) (asked : Option QueryUnderWay) (depth : ℕ) (us : List Update) (next : Weights) (grown : Option Vectors)
     → IsCoherent version heard weights vectors queries asked → part_of heard ≡ Some depth → legal_weights depth weights us ≡ Some next
     → ((refused : Bool) × (grown ≡ (if refused then None else option_map (λ v. with_updates v us) vectors))) → IsCoherent version heard next grown queries asked
 kept_grown version Nothing weights vectors queries asked depth us next grown kept part legal more = absurd cc

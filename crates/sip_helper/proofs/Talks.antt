@@ -11,11 +11,11 @@ use Rattle.sip_wire.proofs.Longest.{spelling_at_most}
 use Rattle.sip_helper.specs.declared.status.HelpStatus.{HelpStatus}
 use Rattle.sip_helper.specs.inside.Measures.{most_turns}
 use Rattle.sip_helper.specs.inside.OneTurn.{StopsTurn, Taken}
-use Rattle.sip_helper.specs.Rules.{AreTurnsBy, EndsAs, IsTurnBy, Rules, ServesBy, Turn, after_turn_by, heard_by, state_after_by, turn_talk_by, turns_talk_by}
+use Rattle.sip_helper.specs.Rules.{AreTurnsBy, EndsAs, IsTurnBy, TurnRules, ServesBy, Turn, after_turn_by, heard_by, state_after_by, turn_talk_by, turns_talk_by}
 
 -- ---- one more turn
 
-module _ {S : Type 0} (r : Rules S) where
+module _ {S : Type 0} (r : TurnRules S) where
   state_after-push : (s : S) (ts : List Turn) (t : Turn) → state_after_by r s (ts ++ t ∷ []) ≡ after_turn_by r (state_after_by r s ts) t
   state_after-push s [] t = refl
   state_after-push s (u ∷ ts) t = state_after-push (after_turn_by r s u) ts t
@@ -39,7 +39,7 @@ module _ {S : Type 0} (r : Rules S) where
 -- ---- how far a talk is
 
 -- the turns so far, none of them a farewell, and the room that is left for the offset
-pub record UnderWay {S : Type 0} (r : Rules S) (left : S → ℕ) (first : S) (start now : Option (List TalkEvent)) (s : S) (offset : ℕ) : Type 0 where
+pub record UnderWay {S : Type 0} (r : TurnRules S) (left : S → ℕ) (first : S) (start now : Option (List TalkEvent)) (s : S) (offset : ℕ) : Type 0 where
   pub turns : List Turn
   pub are : AreTurnsBy r first turns
   pub state : s ≡ state_after_by r first turns
@@ -48,7 +48,7 @@ pub record UnderWay {S : Type 0} (r : Rules S) (left : S → ℕ) (first : S) (s
   pub at : offset ≡ length (heard (turns_talk_by r first turns))
   pub room : offset + longest_frame * left s ≤ longest_frame * most_turns
 
-module _ {S : Type 0} (r : Rules S) (left : S → ℕ) (first : S) (start : Option (List TalkEvent)) where
+module _ {S : Type 0} (r : TurnRules S) (left : S → ℕ) (first : S) (start : Option (List TalkEvent)) where
   pub begins : r.is_done first ≡ false → left first ≤ most_turns → UnderWay r left first start start first 0
   begins going few = record { turns = []; are = tt; state = refl; going = going; talk = GoesOn-refl start; at = refl; room = omega (arith, few) }
 

@@ -22,16 +22,16 @@ use Rattle.sip_wire.specs.Spelling.{spelling}
 use Rattle.sip_helper.specs.declared.status.HelpStatus.TheVariants.{Served, BadFrame, PeerFault}
 use Rattle.sip_helper.specs.inside.OneTurn.{StopsTurn, Taken}
 use Rattle.sip_helper.specs.KindRows.{out_of_turn}
-use Rattle.sip_helper.specs.Rules.{IsMessageBy, IsTurnBy, Rules, Turn, heard_by}
+use Rattle.sip_helper.specs.Rules.{IsMessageBy, IsTurnBy, TurnRules, Turn, heard_by}
 use Rattle.sip_helper.specs.Statuses.{status_of_fault, status_of_stop}
 use Rattle.sip_helper.specs.Turns.{HelperState, OpenQuery, after_answer, after_reply, depth_of, is_refused, owed, owes, reply_to, step}
 
 -- a message that came in the version of a state, at the place that is awaited
-pub in_version : {S : Type 0} (r : Rules S) (s : S) (version : Version) (place : Place) (old mid : Option (List TalkEvent)) (before now : ℕ) (got : List ℕ) (came : Result Message WireFault) → version ≡ r.version s → place ≡ r.place s → Decodes version place old mid before now got came → Decodes (r.version s) (r.place s) old mid before now got came
+pub in_version : {S : Type 0} (r : TurnRules S) (s : S) (version : Version) (place : Place) (old mid : Option (List TalkEvent)) (before now : ℕ) (got : List ℕ) (came : Result Message WireFault) → version ≡ r.version s → place ≡ r.place s → Decodes version place old mid before now got came → Decodes (r.version s) (r.place s) old mid before now got came
 in_version r s version place old mid before now got came same there did =
     subst (λ (p : Place). Decodes (r.version s) p old mid before now got came) there (subst (λ (v : Version). Decodes v place old mid before now got came) same did)
 
-module _ {S : Type 0} (r : Rules S) (s : S) (old mid : Option (List TalkEvent)) (before now : ℕ) (got : List ℕ) where
+module _ {S : Type 0} (r : TurnRules S) (s : S) (old mid : Option (List TalkEvent)) (before now : ℕ) (got : List ℕ) where
   -- ---- no message came
 
   shown : (at : ℕ) (f : WireFault) → Decodes (r.version s) (r.place s) old mid before now got (Err f) → GoesOn old mid (ins got ++ []) → IsOfBytes f → read_frame (r.version s) (r.place s) got ≡ Err f → StopsTurn r old mid s at (BadFrame at)

@@ -1,5 +1,6 @@
 -- What heavy hitters mean to a helper, and what their prover stands for.
-use Rattle.std.specs.Prelude.{◌≡◌, ◌<◌, ◌≤ℤ◌, ℕ, ◌-◌, ◌^◌, Bool, ℤ, pos, int_le, nat_abs, All, List, length, Some, None, if◌then◌else◌}
+use Rattle.std.specs.Prelude.{◌≡◌, ◌<◌, ◌≤ℤ◌, ℕ, ◌-◌, ◌^◌, Bool, ℤ, pos, int_le, nat_abs, All, List}
+use Rattle.std.specs.Prelude.{length, Some, None, if◌then◌else◌}
 use Rattle.std.specs.List.{list_all}
 use Rattle.sip_field.specs.Moduli.{m61_modulus}
 use Rattle.sip_vector.specs.declared.query.Query.{Query}

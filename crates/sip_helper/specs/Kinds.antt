@@ -1,7 +1,8 @@
 -- The kinds of query, a line for each: its items, its row, and its prover.
 use Rattle.std.specs.Prelude.{ℕ, ◌^◌, Bool, true, nat_lt, List}
 use Rattle.sip_vector.specs.declared.query.Query.{Query}
-use Rattle.sip_vector.specs.declared.query.Query.TheVariants.{Sub, Range, F2, Inner, Heavy, Share, Above}
+use Rattle.sip_vector.specs.declared.query.Query.TheVariants.{Sub, Range, F2, Inner, Heavy, Share}
+use Rattle.sip_vector.specs.declared.query.Query.TheVariants.{Above}
 use Rattle.sip_helper.specs.declared.kinds.KindProver.{KindProver}
 use Rattle.sip_helper.specs.declared.kinds.KindProver.TheVariants as provers
 use Rattle.sip_helper.specs.declared.hitters.Least.TheVariants as least

@@ -5,7 +5,8 @@
 -- reply that is owed then is sent, before more is received. It stops at a farewell, at bytes that
 -- are no frame, at a message out of turn, at the end of the link, or where the link fails or memory
 -- runs out.
-use Rattle.std.specs.Prelude.{◌≡◌, ◌≢◌, ◌⊎◌, ℕ, ◌<◌, Bool, false, IsTrue, List, [], ◌∷◌, ◌++◌, length, take, Option, Err}
+use Rattle.std.specs.Prelude.{◌≡◌, ◌≢◌, ◌⊎◌, ℕ, ◌<◌, Bool, false, IsTrue, List, [], ◌∷◌, ◌++◌}
+use Rattle.std.specs.Prelude.{length, take, Option, Err}
 use Rattle.sip_ports.specs.declared.port.TalkEvent.{TalkEvent}
 use Rattle.sip_ports.specs.declared.port.TalkEvent.TheVariants.{Ended}
 use Rattle.sip_ports.specs.Ports.{GoesOn, ins, outs, heard}
@@ -21,7 +22,8 @@ use Rattle.sip_wire.specs.Spelling.{fits, kind_of, spelling}
 use Rattle.sip_wire.specs.Table.{allows}
 use Rattle.sip_wire.specs.Values.{InRange}
 use Rattle.sip_helper.specs.declared.status.HelpStatus.{HelpStatus}
-use Rattle.sip_helper.specs.declared.status.HelpStatus.TheVariants.{Served, BadFrame, PeerClosed, PeerFault, OutOfMemory}
+use Rattle.sip_helper.specs.declared.status.HelpStatus.TheVariants.{Served, BadFrame, PeerClosed}
+use Rattle.sip_helper.specs.declared.status.HelpStatus.TheVariants.{PeerFault, OutOfMemory}
 use Rattle.sip_helper.specs.KindRows.{out_of_turn}
 
 -- ---- rules
@@ -30,7 +32,7 @@ use Rattle.sip_helper.specs.KindRows.{out_of_turn}
 -- talk; which messages may come next; the state after one, by whether memory is refused for it; the
 -- bytes of the reply that is owed then, none where none is, and the state once it was given; the
 -- farewell, and whether it was said.
-pub record Rules (S : Type 0) : Type 0 where
+pub record TurnRules (S : Type 0) : Type 0 where
   pub version : S → Version
   pub place : S → Place
   pub is_allowed : S → Message → Bool
@@ -68,7 +70,7 @@ pub record IsFramePartAt (place : Place) (version : Version)
   pub read : read_frame version place got ≡ Err faults.Closed
   pub said : rest ≡ ins got ++ end
 
-module _ {S : Type 0} (r : Rules S) where
+module _ {S : Type 0} (r : TurnRules S) where
   -- ---- turns
 
   -- the state once the message was heard

@@ -8,11 +8,14 @@ use Rattle.sip_wire.specs.declared.message.Message.{Message}
 use Rattle.sip_wire.specs.declared.message.Message.TheVariants as messages
 use Rattle.sip_wire.specs.declared.version.Version.{Version}
 use Rattle.sip_helper.specs.declared.status.HelpStatus.{HelpStatus}
-use Rattle.sip_helper.specs.Rules.{AreTurnsBy, EndsAs, IsCutShortBy, IsFramePartAt, IsMessageAt, IsNoFrameAt, IsRefusalCutBy, IsRefusedBy, IsReplyCutBy, IsTurnBy, Rules, ServesBy, after_turn_by, heard_by, state_after_by, turn_talk_by, turns_talk_by}
+use Rattle.sip_helper.specs.Rules.{AreTurnsBy, EndsAs, IsCutShortBy, IsFramePartAt, IsMessageAt}
+use Rattle.sip_helper.specs.Rules.{IsNoFrameAt, IsRefusalCutBy, IsRefusedBy, IsReplyCutBy, IsTurnBy}
+use Rattle.sip_helper.specs.Rules.{TurnRules, ServesBy, after_turn_by, heard_by, state_after_by}
+use Rattle.sip_helper.specs.Rules.{turn_talk_by, turns_talk_by}
 use Rattle.sip_helper.specs.Turns.{HelperState, after_answer, fresh, is_allowed, owed, step}
 pub use Rattle.sip_helper.specs.Rules.{Turn}
 
-abbrev pub helper_rules : Rules HelperState
+abbrev pub helper_rules : TurnRules HelperState
 helper_rules = record {
   version = λ s. s.version;
   place = λ _. places.ToHelper;

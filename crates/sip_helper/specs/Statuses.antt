@@ -5,7 +5,8 @@ use Rattle.sip_ports.specs.declared.port.PortStop.TheVariants as stops
 use Rattle.sip_wire.specs.declared.message.WireFault.{WireFault}
 use Rattle.sip_wire.specs.declared.message.WireFault.TheVariants as faults
 use Rattle.sip_helper.specs.declared.status.HelpStatus.{HelpStatus}
-use Rattle.sip_helper.specs.declared.status.HelpStatus.TheVariants.{BadFrame, PeerClosed, PeerFault, OutOfMemory}
+use Rattle.sip_helper.specs.declared.status.HelpStatus.TheVariants.{BadFrame, PeerClosed, PeerFault}
+use Rattle.sip_helper.specs.declared.status.HelpStatus.TheVariants.{OutOfMemory}
 
 abbrev pub status_of_stop : PortStop → HelpStatus
 status_of_stop stops.Failed = PeerFault

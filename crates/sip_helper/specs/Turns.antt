@@ -4,7 +4,9 @@
 -- Whether memory is refused is open: at an opening, at updates and at a query each of the two may
 -- happen. Where it is refused at an opening or at updates, the helper has the weights from then on
 -- and no longer the vectors.
-use Rattle.std.specs.Prelude.{ℕ, ◌+◌, ◌^◌, Bool, true, false, not, ◌&&◌, ◌||◌, nat_le, nat_lt, is_none, is_some, List, [], ◌∷◌, ◌++◌, length, fold, Option, Some, None, if◌then◌else◌}
+use Rattle.std.specs.Prelude.{ℕ, ◌+◌, ◌^◌, Bool, true, false, not, ◌&&◌, ◌||◌, nat_le, nat_lt}
+use Rattle.std.specs.Prelude.{is_none, is_some, List, [], ◌∷◌, ◌++◌, length, fold, Option, Some}
+use Rattle.std.specs.Prelude.{None, if◌then◌else◌}
 use Rattle.std.specs.List.{list_all, flat_map}
 use Rattle.std.specs.Option.{option_map, option_and_then}
 use Rattle.sip_vector.specs.declared.query.Query.{Query}

@@ -1,6 +1,7 @@
 //! A query that is open, and what its replies are made from.
 
-ghost use Rattle.std.specs.Prelude.{◌≡◌, ◌<◌, ◌≤◌, ℕ, [], IfSome, OnOk, OnErr, IsTrue, IsOk, Option, false, true, length, ◌↔◌};
+ghost use Rattle.std.specs.Prelude.{◌≡◌, ◌<◌, ◌≤◌, ℕ, [], IfSome, OnOk, OnErr, IsTrue, IsOk};
+ghost use Rattle.std.specs.Prelude.{Option, false, true, length, ◌↔◌};
 ghost use Rattle.std.specs.List.{flat_map};
 ghost use Rattle.std.specs.Option.{option_map};
 ghost use Rattle.sip_field.specs.Moduli.{m61_modulus};
@@ -58,7 +59,7 @@ impl Answerer {
 
 /// A query that is open.
 #[derive(Drop)]
-pub(crate) struct Asked {
+pub(crate) struct QueryUnderWay {
     pub(crate) answerer: Answerer,
     /// The challenges that were revealed behind it.
     pub(crate) revealed: ArrayVec<u64, CAP>,
@@ -66,21 +67,22 @@ pub(crate) struct Asked {
     pub(crate) given: bool,
 }
 
-impl Asked {
+impl QueryUnderWay {
     /// A query whose first reply is owed.
-    pub(crate) fn new(answerer: Answerer) -> Asked
+    pub(crate) fn new(answerer: Answerer) -> QueryUnderWay
         ensures answerer { result.answerer ≡ answerer }
         ensures revealed { result.revealed.items ≡ [] }
         ensures owed { result.given ≡ false }
     {
-        Asked {
+        QueryUnderWay {
             answerer,
             revealed: ArrayVec::new(),
             given: false,
         }
     }
 
-    /// Takes the challenge of the level that was answered, where one may be revealed. The next reply is owed then.
+    /// Takes the challenge of the level that was answered, where one may be revealed. The next
+    /// reply is owed then.
     pub(crate) fn reveal(&mut self, depth: u8, challenge: u64) -> Result<(), OutOfTurn>
         requires deep { depth ≤ most_depth }
         requires element { challenge < m61_modulus }
@@ -128,7 +130,7 @@ impl Asked {
     }
 
     /// The query once its reply was given; `None` where that was a refusal or the last one.
-    pub(crate) fn after_reply(self, depth: u8) -> Option<Asked>
+    pub(crate) fn after_reply(self, depth: u8) -> Option<QueryUnderWay>
         requires owed { self.given ≡ false }
         ensures after { (vectors : Option AnyVectors) → CanReply depth vectors self
             → option_map open_of result ≡ after_reply depth vectors (open_of self) }

@@ -15,8 +15,8 @@ use sip_ports::{PortStop, Sink};
 use sip_vector::{Entry, Vector};
 use sip_wire::{MOST_ROWS, Message, Version, encode};
 
-/// Writes the first entries from `from` to `hi` that are not 0 to `rows`, as many as a frame has, and answers the index from which
-/// on the others stand.
+/// Writes the first entries from `from` to `hi` that are not 0 to `rows`, as many as a frame has,
+/// and answers the index from which on the others stand.
 fn next_rows(vector: &Vector, from: u64, hi: u64, rows: &mut ArrayVec<Entry, MOST_ROWS>) -> u64
     requires within { hi < 2 ^ vector.now.depth }
     requires deep { vector.now.depth ≤ most_depth }
@@ -38,7 +38,8 @@ fn next_rows(vector: &Vector, from: u64, hi: u64, rows: &mut ArrayVec<Entry, MOS
     next
 }
 
-/// Sends the entries from `lo` to `hi` that are not 0, in full frames and a last one of the rest. It takes no memory.
+/// Sends the entries from `lo` to `hi` that are not 0, in full frames and a last one of the rest.
+/// It takes no memory.
 #[inline(never)]
 pub(crate) fn put_entries<K: Sink>(
     version: Version,

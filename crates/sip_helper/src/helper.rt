@@ -1,6 +1,7 @@
 //! The helper's side of a talk, message by message.
 
-ghost use Rattle.std.specs.Prelude.{◌≡◌, ◌<◌, ◌≤◌, Bool, ℕ, IfSome, IsOk, IsTrue, MatchOption, OnErr, OnOk, None, Some, ◌↔◌, false, is_some, true};
+ghost use Rattle.std.specs.Prelude.{◌≡◌, ◌<◌, ◌≤◌, Bool, ℕ, IfSome, IsOk, IsTrue, MatchOption};
+ghost use Rattle.std.specs.Prelude.{OnErr, OnOk, None, Some, ◌↔◌, false, is_some, true};
 ghost use Rattle.sip_field.specs.Moduli.{m61_modulus};
 ghost use Rattle.sip_ports.specs.Ports.{HasCause, SendsWhole};
 ghost use Rattle.sip_vector.specs.Limits.{most_depth};
@@ -11,10 +12,11 @@ ghost use Rattle.sip_wire.specs.declared.version.Version.TheVariants.{Two};
 ghost use Rattle.sip_wire.specs.declared.message.Message.TheVariants as messages;
 ghost use Rattle.sip_helper.specs.Shown.{opened, opened_version, shown_vector, weight_of};
 ghost use Rattle.sip_helper.specs.inside.Measures.{turns_left};
-ghost use Rattle.sip_helper.specs.Turns.{after_answer, depth_of, fresh, is_allowed, may_hear, owed, owes, step, whole_of};
+ghost use Rattle.sip_helper.specs.Turns.{after_answer, depth_of, fresh, is_allowed, may_hear, owed};
+ghost use Rattle.sip_helper.specs.Turns.{owes, step, whole_of};
 
 use crate::OutOfTurn;
-use crate::asked::{Answerer, Asked};
+use crate::asked::{Answerer, QueryUnderWay};
 use crate::heard::Heard;
 use crate::vectors::{Vectors, Weights, grown, settled};
 use arrayvec::ArrayVec;
@@ -26,8 +28,9 @@ use std::marker::Model;
 
 /// What a helper knows: the stream that it heard, and the query that is open.
 ///
-/// A message that may come is heard by [`hear`](HelperCore::hear), and the reply that is owed then is sent by
-/// [`answer`](HelperCore::answer). Where memory is refused, the query is answered by a refusal.
+/// A message that may come is heard by [`hear`](HelperCore::hear), and the reply that is owed then
+/// is sent by [`answer`](HelperCore::answer). Where memory is refused, the query is answered by a
+/// refusal.
 #[derive(Drop)]
 pub struct HelperCore {
     alloc: Global,
@@ -36,7 +39,7 @@ pub struct HelperCore {
     weights: Weights,
     vectors: Option<Vectors>,
     queries: usize,
-    asked: Option<Asked>,
+    asked: Option<QueryUnderWay>,
     done: bool,
     spent: bool,
 }
@@ -84,7 +87,7 @@ impl HelperCore {
         }
     }
 
-    fn open(&mut self, number: u8, depth: u8) -> Result<(), OutOfTurn>
+    fn open_talk(&mut self, number: u8, depth: u8) -> Result<(), OutOfTurn>
         requires { IsTrue (fits Two (messages.Open number depth)) }
         ensures turn { IsOk result ↔ IsTrue
             (is_allowed self.old (messages.Open number depth)) }
@@ -155,7 +158,7 @@ impl HelperCore {
             return Err(OutOfTurn);
         }
         let answerer = Answerer::start(self.alloc, &self.vectors, query);
-        self.asked = Some(Asked::new(answerer));
+        self.asked = Some(QueryUnderWay::new(answerer));
         self.queries += 1;
         Ok(())
     }
@@ -174,11 +177,13 @@ impl HelperCore {
         }
     }
 
-    /// Takes a message, where it may come: the state is the next one then, and the reply that is owed, if one is, may be sent.
+    /// Takes a message, where it may come: the state is the next one then, and the reply that is
+    /// owed, if one is, may be sent.
     ///
-    /// A message that may not come is [`OutOfTurn`] and leaves the helper as it was. Where one update of a frame may not come, no
-    /// update of it is added. Where memory is refused the message is heard all the same. Each message with a
-    /// spelling in version 1 has one in version 2 too (`sip_wire::laws`).
+    /// A message that may not come is [`OutOfTurn`] and leaves the helper as it was. Where one
+    /// update of a frame may not come, no update of it is added. Where memory is refused the
+    /// message is heard all the same. Each message with a spelling in version 1 has one in version
+    /// 2 too (`sip_wire::laws`).
     pub fn hear(&mut self, message: &Message) -> Result<(), OutOfTurn>
         requires fits { IsTrue (fits Two message.now) }
         requires live { self.old.spent ≡ false }
@@ -188,7 +193,7 @@ impl HelperCore {
         ensures same { OnErr result (self.new ≡ self.old) }
     {
         match message {
-            Message::Open { version, depth } => self.open(*version, *depth),
+            Message::Open { version, depth } => self.open_talk(*version, *depth),
             Message::Updates(updates) => self.add(updates),
             Message::EndStream => self.end(),
             Message::Query(query) => self.ask(*query),
@@ -201,7 +206,8 @@ impl HelperCore {
         }
     }
 
-    /// Takes a message as [`hear`](HelperCore::hear) does, in a talk with another farewell: a Bye may not come there.
+    /// Takes a message as [`hear`](HelperCore::hear) does, in a talk with another farewell: a Bye
+    /// may not come there.
     pub fn hear_on(&mut self, message: &Message) -> Result<(), OutOfTurn>
         requires fits { IsTrue (fits Two message.now) }
         requires live { self.old.spent ≡ false }
@@ -227,7 +233,8 @@ impl HelperCore {
         self.heard.depth()
     }
 
-    /// The version of the frames that are heard and answered: that of the opening, and version 1 before it.
+    /// The version of the frames that are heard and answered: that of the opening, and version 1
+    /// before it.
     pub fn spoken(&self) -> Version
         ensures { result ≡ self.now.version }
     {
@@ -256,8 +263,8 @@ impl HelperCore {
         self.heard.whole()
     }
 
-    /// The weight of a side so far, at most 2^30 - 1: the sum of the absolute deltas that were heard, also where memory was
-    /// refused and no vector is kept. It is 0 before an opening.
+    /// The weight of a side so far, at most 2^30 - 1: the sum of the absolute deltas that were
+    /// heard, also where memory was refused and no vector is kept. It is 0 before an opening.
     pub fn weight(&self, side: Side) -> u64
         ensures side { result ≡ weight_of self.now.weights side }
         ensures most { result ≤ most_weight }
@@ -269,7 +276,8 @@ impl HelperCore {
         }
     }
 
-    /// The vector of a side; `None` exactly where the stream has not ended, or memory was refused while it was heard.
+    /// The vector of a side; `None` exactly where the stream has not ended, or memory was refused
+    /// while it was heard.
     pub fn vector(&self, side: Side) -> Option<&Vector>
         ensures shown { MatchOption result (shown_vector self.now side ≡ None)
             (λ v. shown_vector self.now side ≡ Some (contents v.now)) }

@@ -54,7 +54,8 @@ pub(crate) struct HittersProver {
 }
 
 impl HittersProver {
-    /// Takes the memory that the replies want, unless an entry of the side is negative or the answer may be too wide.
+    /// Takes the memory that the replies want, unless an entry of the side is negative or the
+    /// answer may be too wide.
     pub(crate) fn start(
         alloc: Global,
         vectors: &Vectors,
@@ -85,7 +86,8 @@ impl HittersProver {
     }
 }
 
-/// Sends the end of a level. Its message is made in a call of its own, so that the stack does not have it while nodes are sent.
+/// Sends the end of a level. Its message is made in a call of its own, so that the stack does not
+/// have it while nodes are sent.
 #[inline(never)]
 fn put_level_end<K: Sink>(version: Version, out: &mut K) -> Result<(), PortStop>
     ensures talk { SendsWhole (K.talk out.old) (K.talk out.new) result

@@ -7,8 +7,8 @@ ghost use Rattle.sip_helper.specs.Kinds.{help_row};
 ghost use Rattle.sip_helper.specs.KindRows.{out_of_turn, want_of_memory};
 ghost use Rattle.sip_helper.specs.Vectors.{Vectors as AnyVectors};
 
-/// The row of a kind that is built refuses neither as out of turn nor for want of memory. The row of
-/// another kind always refuses as out of turn.
+/// The row of a kind that is built refuses neither as out of turn nor for want of memory. The row
+/// of another kind always refuses as out of turn.
 pub fn rows_go_by_what_is_built()
     ensures built { (query : AnyQuery) (vectors : AnyVectors) → IsTrue (is_built query)
         → IfSome ((help_row query).refused_by vectors)

@@ -5,7 +5,8 @@ ghost use Rattle.std.specs.List.{flat_map};
 ghost use Rattle.sip_ports.specs.Ports.{HasCause, SendsWhole};
 ghost use Rattle.sip_wire.specs.Spelling.{fits, spelling};
 ghost use Rattle.sip_wire.specs.Table.{most_nodes, most_rows};
-ghost use Rattle.sip_heavy.specs.Honest.{its_nodes, leaf_frames, leaf_of, node_frames, opening_frames};
+ghost use Rattle.sip_heavy.specs.Honest.{its_nodes, leaf_frames, leaf_of, node_frames};
+ghost use Rattle.sip_heavy.specs.Honest.{opening_frames};
 ghost use Rattle.sip_heavy.specs.Spots.{from_on};
 
 use arrayvec::ArrayVec;
@@ -14,7 +15,8 @@ use sip_heavy::HeavyProver;
 use sip_ports::{PortStop, Sink};
 use sip_wire::{Leaf, MOST_NODES, MOST_ROWS, Message, Node, Version, encode};
 
-/// The first leaves from `from` on that are shown, as many as a frame has, and the item from which on the others stand.
+/// The first leaves from `from` on that are shown, as many as a frame has, and the item from which
+/// on the others stand.
 fn next_leaves(prover: &HeavyProver<M61>, from: u64) -> (ArrayVec<Leaf, MOST_ROWS>, u64)
     ensures split { map leaf_of (from_on from (its_nodes prover.now)) ≡ result.0.items
         ++ map leaf_of (from_on result.1 (its_nodes prover.now)) }
@@ -38,7 +40,8 @@ fn next_leaves(prover: &HeavyProver<M61>, from: u64) -> (ArrayVec<Leaf, MOST_ROW
     (rows, next)
 }
 
-/// The first nodes from `from` on that are shown, as many as a frame has, and the index from which on the others stand.
+/// The first nodes from `from` on that are shown, as many as a frame has, and the index from which
+/// on the others stand.
 fn next_nodes(prover: &HeavyProver<M61>, from: u64) -> (ArrayVec<Node, MOST_NODES>, u64)
     ensures split { from_on from (its_nodes prover.now) ≡ result.0.items
         ++ from_on result.1 (its_nodes prover.now) }
@@ -63,9 +66,11 @@ fn next_nodes(prover: &HeavyProver<M61>, from: u64) -> (ArrayVec<Node, MOST_NODE
     (rows, next)
 }
 
-// The rows of a frame lie on the stack, so each kind is sent by a call of its own: the stack never has those of both.
+// The rows of a frame lie on the stack, so each kind is sent by a call of its own: the stack never
+// has those of both.
 
-/// Sends the leaves that are shown of the lowest level, in full frames and a last one of the rest. It takes no memory.
+/// Sends the leaves that are shown of the lowest level, in full frames and a last one of the rest.
+/// It takes no memory.
 #[inline(never)]
 fn put_leaves<K: Sink>(
     version: Version,
@@ -92,7 +97,8 @@ fn put_leaves<K: Sink>(
     }
 }
 
-/// Sends the nodes that are shown of a level, in full frames and a last one of the rest. It takes no memory.
+/// Sends the nodes that are shown of a level, in full frames and a last one of the rest. It takes
+/// no memory.
 #[inline(never)]
 fn put_nodes<K: Sink>(
     version: Version,

@@ -51,14 +51,17 @@ impl Helps for HelperCore {
     }
 }
 
-/// Hears a helper's talk and answers, until a Bye. Frames are in the version of the opening, and in version 1 up to it.
+/// Hears a helper's talk and answers, until a Bye. Frames are in the version of the opening, and in
+/// version 1 up to it.
 ///
-/// It is a [`talk`] by the turns of [`HelperCore`]: it ends, since each update weighs something and a side's weight is bounded, and
-/// since there are at most 16 queries with fewer than 48 challenges each. Memory is taken for one frame, for the two vectors, and for
-/// what the replies to a query are made from.
+/// It is a [`talk`] by the turns of [`HelperCore`]: it ends, since each update weighs something and
+/// a side's weight is bounded, and since there are at most 16 queries with fewer than 48 challenges
+/// each. Memory is taken for one frame, for the two vectors, and for what the replies to a query
+/// are made from.
 ///
-/// The memory for the frame is taken first. Where that is refused the link is left alone; from then on `OutOfMemory` comes only
-/// where the link's count of wants rose, since want of memory for a query or for the vectors is an answer to the verifier.
+/// The memory for the frame is taken first. Where that is refused the link is left alone; from then
+/// on `OutOfMemory` comes only where the link's count of wants rose, since want of memory for a
+/// query or for the vectors is an answer to the verifier.
 pub fn serve<L: Link>(alloc: Global, link: &mut L) -> HelpStatus
     ensures serves { Serves (L.talk link.old) (L.talk link.new) result }
     ensures cause { result ≡ HelpStatus.PeerFault

@@ -11,8 +11,8 @@ use sip_wire::WireFault;
 pub enum HelpStatus {
     /// A Bye was heard.
     Served,
-    /// The frame that begins at this offset of the bytes that were received has no spelling or is a query of a kind that is not
-    /// answered, or its message is out of turn.
+    /// The frame that begins at this offset of the bytes that were received has no spelling or is a
+    /// query of a kind that is not answered, or its message is out of turn.
     BadFrame { offset: u64 },
     /// The link ended before a Bye.
     PeerClosed,

@@ -91,8 +91,8 @@ fn siblings_of(prover: &SubProver<M61>) -> Message
     }
 }
 
-/// Sends the siblings of the level that is reached. Their message is made in a call of its own, so that the stack does not have it
-/// while entries are sent.
+/// Sends the siblings of the level that is reached. Their message is made in a call of its own, so
+/// that the stack does not have it while entries are sent.
 #[inline(never)]
 fn put_siblings<K: Sink>(
     version: Version,

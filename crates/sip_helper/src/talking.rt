@@ -21,14 +21,15 @@ use std::alloc::Global;
 /// Which message may come, what it does and what is owed then are its `rules`: all that a talk on a
 /// link promises ([`talk`]) is said by these.
 pub trait Helps {
-    ghost use Rattle.std.specs.Prelude.{◌≡◌, ◌<◌, ◌≤◌, ◌↔◌, Bool, ℕ, IsOk, IsTrue, OnErr, OnOk, [], false, true};
+    ghost use Rattle.std.specs.Prelude.{◌≡◌, ◌<◌, ◌≤◌, ◌↔◌, Bool, ℕ, IsOk, IsTrue, OnErr, OnOk, []};
+    ghost use Rattle.std.specs.Prelude.{false, true};
     ghost use Rattle.sip_ports.specs.Ports.{HasCause, SendsWhole};
     ghost use Rattle.sip_wire.specs.Spelling.{fits};
     ghost use Rattle.sip_wire.specs.declared.version.Version.TheVariants.{Two};
-    ghost use Rattle.sip_helper.specs.Rules.{Rules};
+    ghost use Rattle.sip_helper.specs.Rules.{TurnRules};
 
     /// The rules of the talk.
-    ghost rules: { Rules Self };
+    ghost rules: { TurnRules Self };
 
     /// How many turns are left at most.
     ghost turns_left: { Self → ℕ };
@@ -93,8 +94,8 @@ pub trait Helps {
         ensures cause { HasCause K.faults K.wants K.is_sure out.old out.new result };
 }
 
-/// Sends the refusal of a message out of turn. It is made in a call of its own, since a message is as large as the longest frame's
-/// rows: the stack has it no longer than that.
+/// Sends the refusal of a message out of turn. It is made in a call of its own, since a message is
+/// as large as the longest frame's rows: the stack has it no longer than that.
 #[inline(never)]
 fn refuse<L: Link>(version: Version, link: &mut L) -> Result<(), PortStop>
     ensures talk { SendsWhole (L.talk link.old) (L.talk link.new) result
@@ -146,12 +147,14 @@ fn take_turn<H: Helps, L: Link>(
 
 /// Hears a talk and answers, until a farewell.
 ///
-/// Each reply that is owed goes out before the next frame is taken. A message out of turn is answered by a refusal, and ends the
-/// talk, and so is a query of a kind that is not built; a frame without a spelling ends it with no answer. The loop ends, since
-/// each turn but a farewell leaves fewer turns.
+/// Each reply that is owed goes out before the next frame is taken. A message out of turn is
+/// answered by a refusal, and ends the talk, and so is a query of a kind that is not built; a frame
+/// without a spelling ends it with no answer. The loop ends, since each turn but a farewell leaves
+/// fewer turns.
 ///
-/// The memory for the frame is taken first. Where that is refused the link is left alone; from then on `OutOfMemory` comes only
-/// where the link's count of wants rose, since want of memory for an answer is an answer to the verifier.
+/// The memory for the frame is taken first. Where that is refused the link is left alone; from then
+/// on `OutOfMemory` comes only where the link's count of wants rose, since want of memory for an
+/// answer is an answer to the verifier.
 pub fn talk<H: Helps + Drop, L: Link>(helper: H, alloc: Global, link: &mut L) -> HelpStatus
     requires live { IsTrue (H.is_live helper) }
     requires going { H.rules.is_done helper ≡ false }

@@ -1,13 +1,17 @@
-//! What replies are owed in a talk that keeps to the turns. These functions do nothing: each contract is a fact that holds.
+//! What replies are owed in a talk that keeps to the turns. These functions do nothing: each
+//! contract is a fact that holds.
 
-ghost use Rattle.std.specs.Prelude.{◌≡◌, ◌≢◌, ◌<◌, Bool, ℕ, List, [], IsTrue, length, None, Some, false};
+ghost use Rattle.std.specs.Prelude.{◌≡◌, ◌≢◌, ◌<◌, Bool, ℕ, List, [], IsTrue, length, None, Some};
+ghost use Rattle.std.specs.Prelude.{false};
 ghost use Rattle.std.specs.List.{flat_map};
 ghost use Rattle.sip_vector.specs.declared.query.Query.{Query as AnyQuery};
 ghost use Rattle.sip_vector.specs.declared.update.Update.{Update as AnyUpdate};
 ghost use Rattle.sip_wire.specs.Spelling.{spelling};
 ghost use Rattle.sip_wire.specs.declared.message.Message.TheVariants as messages;
 ghost use Rattle.sip_helper.specs.Kinds.{help_row};
-ghost use Rattle.sip_helper.specs.Turns.{HelperState as AnyState, OpenQuery as AnyOpen, after_answer, is_refused, owed, owes, step, version_opened};
+ghost use Rattle.sip_helper.specs.Turns.{HelperState as AnyState, OpenQuery as AnyOpen};
+ghost use Rattle.sip_helper.specs.Turns.{after_answer, is_refused, owed, owes, step};
+ghost use Rattle.sip_helper.specs.Turns.{version_opened};
 ghost use Rattle.sip_helper.specs.Streams.{query_heard, stream_heard, vectors_of};
 
 /// A reply that is owed has bytes.
@@ -15,7 +19,8 @@ pub fn replies_have_bytes()
     ensures { (s : AnyState) → IsTrue (owes s) → owed s ≢ [] }
 {}
 
-/// A query that is open once its reply was given was not refused, and no reply to a challenge is a refusal then.
+/// A query that is open once its reply was given was not refused, and no reply to a challenge is a
+/// refusal then.
 pub fn challenges_are_not_refused()
     ensures given { (s : AnyState) (o : AnyOpen) → IsTrue (owes s)
         → (after_answer s).open_query ≡ Some o → is_refused s.vectors o ≡ false }
@@ -25,8 +30,9 @@ pub fn challenges_are_not_refused()
         → is_refused s.vectors now ≡ false }
 {}
 
-/// Behind an opening, the updates of a stream in any pieces, and its end, the vectors are those that the stream adds up to. Behind a
-/// query that its row does not refuse over these, and fewer challenges than the depth, its row's honest reply is owed.
+/// Behind an opening, the updates of a stream in any pieces, and its end, the vectors are those
+/// that the stream adds up to. Behind a query that its row does not refuse over these, and fewer
+/// challenges than the depth, its row's honest reply is owed.
 pub fn honest_replies_are_owed()
     ensures vectors { (number depth : ℕ) (pieces : List (List AnyUpdate))
         → (stream_heard number depth pieces).vectors

@@ -1,6 +1,7 @@
 //! What the updates of a stream add up to.
 
-ghost use Rattle.std.specs.Prelude.{◌≡◌, ◌<◌, ◌≤◌, ◌+◌, ◌^◌, ◌∷◌, [], All, Bool, IfOk, IfSome, IsTrue, OnOk, fold, length, nat_abs, sum_by, if◌then◌else◌};
+ghost use Rattle.std.specs.Prelude.{◌≡◌, ◌<◌, ◌≤◌, ◌+◌, ◌^◌, ◌∷◌, [], All, Bool, IfOk, IfSome};
+ghost use Rattle.std.specs.Prelude.{IsTrue, OnOk, fold, length, nat_abs, sum_by, if◌then◌else◌};
 ghost use Rattle.std.specs.Option.{option_map};
 ghost use Rattle.sip_vector.specs.Streams.{most_weight, weight};
 ghost use Rattle.sip_vector.specs.Vectors.{contents, with_update};
@@ -29,7 +30,8 @@ pub(crate) struct Weights {
 }
 
 impl Weights {
-    /// The weights once an update is added; `None` where its item is not below `2^depth` or its side becomes too heavy.
+    /// The weights once an update is added; `None` where its item is not below `2^depth` or its
+    /// side becomes too heavy.
     fn with_one(self, depth: Depth, update: Update) -> Option<Weights>
         requires { IsTrue (is_light self) }
         ensures { result ≡ legal_weights depth self (update ∷ []) }
@@ -49,7 +51,8 @@ impl Weights {
         Some(weights)
     }
 
-    /// The weights once these updates are added; `None` where an item is not below `2^depth` or a side becomes too heavy.
+    /// The weights once these updates are added; `None` where an item is not below `2^depth` or a
+    /// side becomes too heavy.
     pub(crate) fn with(self, depth: Depth, updates: &[Update]) -> Option<Weights>
         requires { IsTrue (is_light self) }
         ensures { result ≡ legal_weights depth self updates.now }
@@ -164,8 +167,8 @@ impl Vectors {
     }
 }
 
-/// The vectors with nothing pending, so that they are read quickly. They are the same vectors, also where memory is refused:
-/// reads are right then, and slow.
+/// The vectors with nothing pending, so that they are read quickly. They are the same vectors, also
+/// where memory is refused: reads are right then, and slow.
 pub(crate) fn settled(vectors: Option<Vectors>) -> Option<Vectors>
     ensures { result ≡ vectors }
 {
@@ -175,7 +178,8 @@ pub(crate) fn settled(vectors: Option<Vectors>) -> Option<Vectors>
     Some(vectors)
 }
 
-/// The vectors once these updates are added, where they are still kept; none where memory is refused.
+/// The vectors once these updates are added, where they are still kept; none where memory is
+/// refused.
 pub(crate) fn grown(vectors: Option<Vectors>, updates: &[Update]) -> Option<Vectors>
     requires legal { IfSome vectors (λ v. IsTrue (stays_legal v.first.depth
         (weights_of v) updates.now)) }

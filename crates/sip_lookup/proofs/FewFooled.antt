@@ -13,13 +13,8 @@ use Rattle.sip_counts.proofs.Vectors.{counted-grows, counted-none}
 use Rattle.sip_counts.proofs.Talks.{replies-more}
 use Rattle.sip_wire.specs.declared.kind.Place.TheVariants as places
 use Rattle.sip_wire.specs.declared.message.Reason.{Reason}
-use Rattle.sip_wire.specs.declared.message.Reason.TheVariants as reasons
-use Rattle.sip_wire.specs.declared.message.Message.{Message}
-use Rattle.sip_wire.specs.declared.message.WireFault.{WireFault}
-use Rattle.sip_wire.specs.Reading.{read_frame}
 use Rattle.sip_wire.specs.Spelling.{asked}
 use Rattle.sip_wire.proofs.ReadingLaws.{read_frame-rest}
-use Rattle.sip_replies.specs.Replies.{reasoned}
 use Rattle.sip_wire.specs.declared.version.Version.{Version}
 use Rattle.sip_replies.proofs.Passing.{same_ok}
 use Rattle.sip_replies.proofs.SameEntries.{same_entries}
@@ -27,27 +22,19 @@ use Rattle.sip_subvec.specs.Counting.{accepts_sub, said}
 use Rattle.sip_subvec.specs.Counting as sub
 use Rattle.sip_subvec.proofs.FewFooled.{few_fooled_bytes}
 use Rattle.sip_lookup.specs.declared.lookup.Lookup.{Lookup}
-use Rattle.sip_lookup.specs.Frames.{found_in, read_found}
+use Rattle.sip_lookup.specs.Frames.{read_found}
 use Rattle.sip_lookup.specs.Lookups.{item_of, near, is_same_answer, is_possible, range_of, are_alone, stated_answer}
 use Rattle.sip_lookup.specs.AcceptsLook.{Parts, parts, said_within, accepts_parts, of_parts, accepts_look, is_right, fooled_look}
+use Rattle.sip_lookup.proofs.FoundFrames.{found_read}
 use Rattle.sip_lookup.proofs.NearEntries.{range_fits, alone_is_near, same_answer}
 
 -- ---- what follows a Found
 
--- a place, and what follows it
-by_place : (place : Result (Option ℕ) Reason) (rest : List ℕ) (x : Option ℕ × List ℕ) → (place >>= λ found. Ok (found, rest)) ≡ Ok x → x.1 ≡ rest
-by_place (Err reason) rest x h = absurd cc
-by_place (Ok found) rest x h = ap (λ (y : Option ℕ × List ℕ). y.1) (sym (same_ok {E = Reason} (found, rest) x h))
-
 -- it is what stands behind the frame
 read_rest : (version : Version) (bytes : List ℕ) (x : Option ℕ × List ℕ) → read_found version bytes ≡ Ok x → x.1 ≡ drop (asked version places.Found bytes) bytes
-unfolding read_found
-read_rest version bytes x h = by_frame (read_frame version places.Found bytes) refl h
-  where
-    by_frame : (r : Result (Message × List ℕ) WireFault) → read_frame version places.Found bytes ≡ r
-        → (reasoned r >>= λ frame. (found_in frame.0 >>= λ place. Ok (place, frame.1))) ≡ Ok x → x.1 ≡ drop (asked version places.Found bytes) bytes
-    by_frame (Err fault) is e = absurd cc
-    by_frame (Ok (m, rest)) is e = by_place (found_in m) rest x e ∙ (read_frame-rest version places.Found bytes m rest is).1
+read_rest version bytes x h =
+    let r = found_read version bytes x h in
+    (read_frame-rest version places.Found bytes r.message x.1 r.frame).1
 
 -- the strategy whose first reply is this, and whose others are the same
 abbrev pub behind : Strategy → List ℕ → Strategy

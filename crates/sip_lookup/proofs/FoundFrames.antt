@@ -42,23 +42,38 @@ found_is version _ found fit is = absurd cc
 
 -- ---- more bytes behind it
 
-by_place : (place : Result (Option ℕ) Reason) (rest more : List ℕ) (x : Option ℕ × List ℕ)
-    → (place >>= λ found. Ok (found, rest)) ≡ Ok x → ◌>>=◌ {B = Option ℕ × List ℕ} place (λ found. Ok (found, rest ++ more)) ≡ Ok (x.0, x.1 ++ more)
-by_place (Err reason) rest more x e = absurd cc
-by_place (Ok found) rest more x e =
-    let same : (found, rest) ≡ x = cc in
-    ap (λ (y : Option ℕ × List ℕ). Ok (y.0, y.1 ++ more)) same
+-- a message came whole, and is for a place or none; this stands behind it
+pub record IsRead (version : Version) (bytes : List ℕ) (x : Option ℕ × List ℕ) : Type 0 where
+  pub message : Message
+  pub frame : read_frame version places.Found bytes ≡ Ok (message, x.1)
+  pub place : found_in message ≡ Ok x.0
+
+-- so each Found is read
+pub found_read : (version : Version) (bytes : List ℕ) (x : Option ℕ × List ℕ) → read_found version bytes ≡ Ok x → IsRead version bytes x
+unfolding read_found
+found_read version bytes x e = by_frame (read_frame version places.Found bytes) refl e
+  where
+    by_place : (m : Message) (after : List ℕ) → read_frame version places.Found bytes ≡ Ok (m, after)
+        → (place : Result (Option ℕ) Reason) → found_in m ≡ place → (place >>= λ found. Ok (found, after)) ≡ Ok x → IsRead version bytes x
+    by_place m after is (Err reason) at e = absurd cc
+    by_place m after is (Ok found) at e =
+        let same : (found, after) ≡ x = cc in
+        record {
+          message = m;
+          frame = is ∙ ap (λ (y : Option ℕ × List ℕ). Ok (m, y.1)) same;
+          place = at ∙ ap (λ (y : Option ℕ × List ℕ). Ok y.0) same;
+        }
+
+    by_frame : (r : Result (Message × List ℕ) WireFault) → read_frame version places.Found bytes ≡ r
+        → (reasoned r >>= λ frame. (found_in frame.0 >>= λ place. Ok (place, frame.1))) ≡ Ok x → IsRead version bytes x
+    by_frame (Err fault) is e = absurd cc
+    by_frame (Ok (m, after)) is e = by_place m after is (found_in m) refl e
 
 pub found_more : (version : Version) (bytes more : List ℕ) (x : Option ℕ × List ℕ)
     → read_found version bytes ≡ Ok x → read_found version (bytes ++ more) ≡ Ok (x.0, x.1 ++ more)
 unfolding read_found
-found_more version bytes more x e = by_frame (read_frame version places.Found bytes) refl e
-  where
-    by_frame : (r : Result (Message × List ℕ) WireFault) → read_frame version places.Found bytes ≡ r
-        → (reasoned r >>= λ frame. (found_in frame.0 >>= λ place. Ok (place, frame.1))) ≡ Ok x
-        → read_found version (bytes ++ more) ≡ Ok (x.0, x.1 ++ more)
-    by_frame (Err fault) is e = absurd cc
-    by_frame (Ok (m, after)) is e =
-        let next : read_frame version places.Found (bytes ++ more) ≡ Ok (m, after ++ more) = read_frame-append version places.Found bytes more m after is in
-        ap (λ (r : Result (Message × List ℕ) WireFault). reasoned r >>= λ frame. (found_in frame.0 >>= λ place. Ok (place, frame.1))) next
-        ∙ by_place (found_in m) after more x e
+found_more version bytes more x e =
+    let r = found_read version bytes x e in
+    ap (λ (r : Result (Message × List ℕ) WireFault). reasoned r >>= λ frame. (found_in frame.0 >>= λ place. Ok (place, frame.1)))
+    (read_frame-append version places.Found bytes more r.message x.1 r.frame)
+    ∙ ap (λ (place : Result (Option ℕ) Reason). ◌>>=◌ {B = Option ℕ × List ℕ} place (λ found. Ok (found, x.1 ++ more))) r.place

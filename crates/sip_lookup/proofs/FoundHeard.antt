@@ -91,11 +91,8 @@ module _ (version : Version) (old new before : Option (List TalkEvent)) (rose ri
 module _ (version : Version) (old new before now : Option (List TalkEvent)) (rose risen : ℕ) (got : List ℕ) (r : Result Message WireFault)
     (did : Decodes version places.Found old new rose risen got r) where
   -- no byte less shows what it is
-  some_byte : (byte : ℕ) → byte ∷ [] ≢ []
-  some_byte byte e = cc
-
   shortest : (front : List ℕ) (byte : ℕ) → got ≡ front ++ byte ∷ [] → read_found version front ≡ Err reasons.Closed
-  shortest front byte e = fault_says version front reasons.Closed (ap reasoned (did.short front (byte ∷ []) e (some_byte byte)))
+  shortest front byte e = fault_says version front reasons.Closed (ap reasoned (did.short front (byte ∷ []) e (λ none. cc)))
 
   -- it was not kept whole
   unkept : (n : ℕ) → GoesOn before now (outs (take n got)) → IsUnkept version (read_found version) old new before now

@@ -76,7 +76,7 @@ fault_stays : (version : Version) (bytes more : List ℕ) (reason : Reason)
     → read_found version (bytes ++ more) ≡ Err reason
 unfolding read_found
 fault_stays version bytes more reason e other =
-    by_frame (read_frame version places.Found bytes) refl e
+    by_reading (read_frame version places.Found bytes) e refl
   where
     says : Result (Message × List ℕ) WireFault → Result (Option ℕ × List ℕ) Reason
     says r = reasoned r >>= λ frame. (found_in frame.0 >>= λ place. Ok (place, frame.1))
@@ -87,13 +87,14 @@ fault_stays version bytes more reason e other =
     by_place (Ok found) rest next e = absurd cc
     by_place (Err x) rest next e = let same : x ≡ reason = cc in ap (λ (y : Reason). Err y) same
 
-    by_frame : (r : Result (Message × List ℕ) WireFault) → read_frame version places.Found bytes ≡ r
-        → says r ≡ Err reason → says (read_frame version places.Found (bytes ++ more)) ≡ Err reason
-    by_frame (Err fault) is e =
+    by_reading : (r : Result (Message × List ℕ) WireFault) → says r ≡ Err reason
+        → read_frame version places.Found bytes ≡ r
+        → says (read_frame version places.Found (bytes ++ more)) ≡ Err reason
+    by_reading (Err fault) e is =
         let same : reason_of fault ≡ reason = cc in
         ap says (read_frame-append_fault version places.Found bytes more fault is
         (λ closed. other (sym same ∙ ap reason_of closed))) ∙ e
-    by_frame (Ok (m, after)) is e =
+    by_reading (Ok (m, after)) e is =
         ap says (read_frame-append version places.Found bytes more m after is)
         ∙ by_place (found_in m) after (after ++ more) e
 

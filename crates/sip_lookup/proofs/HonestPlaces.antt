@@ -10,7 +10,8 @@ use Rattle.sip_subvec.proofs.HonestEntries.{zero_is}
 use Rattle.sip_lookup.specs.declared.lookup.Lookup.{Lookup}
 use Rattle.sip_lookup.specs.declared.lookup.Lookup.TheVariants.{Index, Pred, Succ}
 use Rattle.sip_lookup.specs.Lookups.{are_alone, honest_found, is_possible, item_of, range_of}
-use Rattle.sip_lookup.proofs.NearEntries.{first_here, found_first, last_behind, some_is, the_entry, without_zero}
+use Rattle.sip_vector.proofs.LastEntry.{last_behind}
+use Rattle.sip_lookup.proofs.NearEntries.{first_here, found_first, some_is, the_entry, without_zero}
 
 -- a place may be found, and the entries of its interval stand alone and are one at most
 pub record IsProved (d : ℕ) (numbers : List ℤ) (l : Lookup) (found : Option ℕ) : Type 0 where

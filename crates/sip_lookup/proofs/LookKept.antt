@@ -1,30 +1,27 @@
 -- What was heard for a lookup was kept: its Found, and then the replies about its interval.
-use Rattle.std.proofs.Common.{◌≡◌, ℕ, ℤ, Option, Result, Ok, Err, List, [], ◌++◌, inl, inr, sym, ap, subst, ◌∙◌, append-nil}
-use Rattle.std.specs.Prelude.{IsErrAnd}
+use Rattle.std.proofs.Common.{◌≡◌, ℕ, ℤ, Option, Result, Ok, Err, List, [], ◌++◌, inl, inr, refl, sym, ap, subst, ◌∙◌, append-nil}
 use Rattle.sip_ports.specs.declared.port.PortStop.{PortStop}
 use Rattle.sip_ports.specs.declared.port.PortStop.TheVariants as port_stops
 use Rattle.sip_ports.specs.declared.port.TalkEvent.{TalkEvent}
-use Rattle.sip_ports.specs.Ports.{GoesOn, heard, ins, outs}
+use Rattle.sip_ports.specs.Ports.{GoesOn, Rose, heard, ins, outs}
 use Rattle.sip_ports.proofs.TalkLemmas.{GoesOn-refl, heard-append, heard-ins, heard-outs}
-use Rattle.sip_wire.specs.declared.kind.Place.TheVariants as places
 use Rattle.sip_wire.specs.declared.message.Reason.{Reason}
-use Rattle.sip_wire.specs.declared.message.Reason.TheVariants as reasons
 use Rattle.sip_wire.specs.declared.version.Version.{Version}
 use Rattle.sip_replies.specs.Asking.{AreFrames, HasFault, IsPart, IsUnkept, KeepsFrames, KeepsPart}
 use Rattle.sip_replies.specs.Talks.{ending}
 use Rattle.sip_replies.proofs.Framed.{AreFrames-none}
-use Rattle.sip_replies.proofs.Reading.{no_frame}
 use Rattle.sip_verifier.specs.declared.asker.Unanswered.{Unanswered}
 use Rattle.sip_verifier.specs.declared.asker.Unanswered.TheVariants as unanswered
 use Rattle.sip_verifier.specs.declared.session.SessionFault.{SessionFault}
 use Rattle.sip_verifier.specs.declared.session.SessionFault.TheVariants as faults
 use Rattle.sip_verifier.specs.declared.session.Verdict.{Verdict}
 use Rattle.sip_verifier.specs.declared.session.Verdict.TheVariants as verdicts
-use Rattle.sip_verifier.specs.declared.status.Port.TheVariants as ports
-use Rattle.sip_verifier.specs.declared.status.Status.TheVariants as statuses
-use Rattle.sip_verifier.specs.Keeping.{AllIsKept, FramesAreKept, FrontIsKept, KeepsReplies, WholeIsKept}
+use Rattle.sip_verifier.specs.AskClause.{AskClause, came_of}
+use Rattle.sip_verifier.specs.Keeping.{AllIsKept, FramesAreKept, FrontIsKept, WholeIsKept}
 use Rattle.sip_verifier.specs.runs.Askers.{KeepsAsked}
-use Rattle.sip_verifier.proofs.KeptQueries.{all_of_whole, kept_then, whole_then}
+use Rattle.sip_verifier.specs.Snapshots.{SinkState}
+use Rattle.sip_verifier.proofs.KeptAsks.{fault_keeps}
+use Rattle.sip_verifier.proofs.KeptQueries.{all_of_whole, asked_then, frames_of_whole, front_of_all, whole_then}
 use Rattle.sip_verifier.proofs.KeptReplies.{heard-ended, heard-ending}
 use Rattle.sip_lookup.specs.Frames.{read_found}
 use Rattle.sip_lookup.specs.Hearing.{HearsFound, IsFound, stop_of_link}
@@ -42,29 +39,6 @@ module _ (version : Version) where
   }
 
   module _ (old new before now : Option (List TalkEvent)) where
-    front_of_whole : WholeIsKept old new before now version → FrontIsKept old new before now
-    front_of_whole w = record { said = w.said; talk = w.talk; wrote = (heard w.said, ([], sym (append-nil (heard w.said))), w.wrote) }
-
-    frames_of_whole : WholeIsKept old new before now version → FramesAreKept old new before now version
-    frames_of_whole w = record {
-      said = w.said;
-      talk = w.talk;
-      wrote = record {
-        whole = heard w.said;
-        part = [];
-        split = sym (append-nil (heard w.said));
-        frames = w.frames;
-        cut = (places.Entries, no_frame version places.Entries);
-        kept = w.wrote;
-      };
-    }
-
-    -- the link stopped while it was sent
-    pub ask_kept : {G : Type 0} (port : PortStop) (result : Result G Unanswered) → WholeIsKept old new before now version → IsErrAnd result (λ stop. stop ≡ stop_of_link port) → KeepsAsked old new before now version result
-    ask_kept port (Ok given) w is = absurd is
-    ask_kept port_stops.Failed (Err stop) w is = rw is (frames_of_whole w)
-    ask_kept port_stops.OutOfMemory (Err stop) w is = rw is (front_of_whole w)
-
     -- ---- the Found
 
     pub found_kept : (found : Option ℕ) → IsFound version old new before now found → WholeIsKept old new before now version
@@ -110,14 +84,8 @@ module _ (version : Version) where
   -- ---- one part of the talk behind another
 
   module _ (old mid new before during now : Option (List TalkEvent)) (a : WholeIsKept old mid before during version) where
-    all_then : AllIsKept mid new during now → AllIsKept old new before now
-    all_then b = kept_then version old mid new before during now a (Err (statuses.Rejected 0 0 reasons.Closed)) b
-
-    frames_then : FramesAreKept mid new during now version → FramesAreKept old new before now version
-    frames_then f = kept_then version old mid new before during now a (Err statuses.PeerFault) f
-
-    front_then : FrontIsKept mid new during now → FrontIsKept old new before now
-    front_then f = kept_then version old mid new before during now a (Err (statuses.WriteFault ports.Keep)) f
+    behind_it : {G : Type 0} (r : Result G Unanswered) → KeepsAsked mid new during now version r → KeepsAsked old new before now version r
+    behind_it r k = asked_then version old mid new before during now a r k
 
     -- a Found that gives a place, behind the Ask
     pub found_then : (found : Option ℕ) → IsFound version mid new during now found → WholeIsKept old new before now version
@@ -125,29 +93,39 @@ module _ (version : Version) where
 
     -- a Found that gives no place
     pub unheard_kept : (G : Type 0) (stop : Unanswered) → HearsFound version mid new during now (Err stop) → KeepsAsked old new before now version {G = G} (Err stop)
-    unheard_kept G (unanswered.Rejected round reason) h = all_then (faulty_kept mid new during now reason h.1)
-    unheard_kept G (unanswered.Fault faults.PeerFault) h = frames_then (part_kept mid new during now h)
-    unheard_kept G (unanswered.Fault faults.KeepFault) h = front_then (unkept_front mid new during now h)
-    unheard_kept G (unanswered.Fault faults.OutOfMemory) (inl p) = front_then (part_front mid new during now p)
-    unheard_kept G (unanswered.Fault faults.OutOfMemory) (inr u) = front_then (unkept_front mid new during now u)
+    unheard_kept G (unanswered.Rejected round reason) h = behind_it {G = G} (Err (unanswered.Rejected round reason)) (faulty_kept mid new during now reason h.1)
+    unheard_kept G (unanswered.Fault faults.PeerFault) h = behind_it {G = G} (Err (unanswered.Fault faults.PeerFault)) (part_kept mid new during now h)
+    unheard_kept G (unanswered.Fault faults.KeepFault) h = behind_it {G = G} (Err (unanswered.Fault faults.KeepFault)) (unkept_front mid new during now h)
+    unheard_kept G (unanswered.Fault faults.OutOfMemory) (inl p) = behind_it {G = G} (Err (unanswered.Fault faults.OutOfMemory)) (part_front mid new during now p)
+    unheard_kept G (unanswered.Fault faults.OutOfMemory) (inr u) = behind_it {G = G} (Err (unanswered.Fault faults.OutOfMemory)) (unkept_front mid new during now u)
 
-    -- the replies about its interval
-    pub answered_kept : (r : Result Verdict SessionFault) → r ≡ Ok verdicts.Pairs → KeepsReplies mid new during now version r → WholeIsKept old new before now version
-    answered_kept r is k = whole_then version old mid new before during now a (subst (KeepsReplies mid new during now version) is k)
+    -- the replies about its interval, which came to this
+    pub result_kept : (r came : Result Verdict SessionFault) → r ≡ came → KeepsAsked mid new during now version (came_of r) → KeepsAsked old new before now version (came_of came)
+    result_kept r came is k = behind_it (came_of came) (subst (λ (x : Result Verdict SessionFault). KeepsAsked mid new during now version (came_of x)) is k)
 
-    pub not_alone_kept : (r : Result Verdict SessionFault) → r ≡ Ok verdicts.Pairs → KeepsReplies mid new during now version r → AllIsKept old new before now
-    not_alone_kept r is k = all_of_whole old new before now version (answered_kept r is k)
+    pub not_alone_kept : (r : Result Verdict SessionFault) → r ≡ Ok verdicts.Pairs → KeepsAsked mid new during now version (came_of r) → AllIsKept old new before now
+    not_alone_kept r is k = all_of_whole old new before now version (result_kept r (Ok verdicts.Pairs) is k)
 
-    pub number_kept : (r : Result Verdict SessionFault) (n : ℤ) → r ≡ Ok (verdicts.Number n) → KeepsReplies mid new during now version r → AllIsKept old new before now
-    number_kept r n is k = all_of_whole old new before now version (whole_then version old mid new before during now a (subst (KeepsReplies mid new during now version) is k))
+    pub number_kept : (r : Result Verdict SessionFault) (n : ℤ) → r ≡ Ok (verdicts.Number n) → KeepsAsked mid new during now version (came_of r) → AllIsKept old new before now
+    number_kept r n is k = all_of_whole old new before now version (result_kept r (Ok (verdicts.Number n)) is k)
 
-    pub rejected_kept : (r : Result Verdict SessionFault) (round : ℕ) (reason : Reason) → r ≡ Ok (verdicts.Rejected round reason) → KeepsReplies mid new during now version r → AllIsKept old new before now
-    rejected_kept r round reason is k = all_then (subst (KeepsReplies mid new during now version) is k)
-
-    pub stopped_kept : (r : Result Verdict SessionFault) (fault : SessionFault) → r ≡ Err fault → KeepsReplies mid new during now version r → KeepsReplies old new before now version (Err fault)
-    stopped_kept r fault is k = by_fault fault (subst (KeepsReplies mid new during now version) is k)
+    pub stopped_kept : (G : Type 0) (r : Result Verdict SessionFault) (fault : SessionFault) → r ≡ Err fault → KeepsAsked mid new during now version (came_of r)
+        → KeepsAsked old new before now version {G = G} (Err (unanswered.Fault fault))
+    stopped_kept G r fault is k = by_fault fault (result_kept r (Err fault) is k)
       where
-        by_fault : (f : SessionFault) → KeepsReplies mid new during now version (Err f) → KeepsReplies old new before now version (Err f)
-        by_fault faults.PeerFault k = frames_then k
-        by_fault faults.KeepFault k = front_then k
-        by_fault faults.OutOfMemory k = front_then k
+        by_fault : (f : SessionFault) → KeepsAsked old new before now version (came_of (Err f)) → KeepsAsked old new before now version {G = G} (Err (unanswered.Fault f))
+        by_fault faults.PeerFault k = k
+        by_fault faults.KeepFault k = k
+        by_fault faults.OutOfMemory k = k
+
+-- ---- all that is kept
+
+-- the link stopped while the Ask was sent
+pub link_keeps : {G : Type 0} (version : Version) (old new before now : SinkState) (port : PortStop) → WholeIsKept old.told new.told before.told now.told version
+    → (port ≡ port_stops.Failed → Rose old.faults new.faults) → (port ≡ port_stops.OutOfMemory → Rose old.wants new.wants)
+    → AskClause {G = G} version old new before now (Err (stop_of_link port))
+link_keeps version old new before now port_stops.Failed w failed wanted =
+    fault_keeps version old new before now faults.PeerFault (frames_of_whole old.told new.told before.told now.told version w) (λ is. failed refl) (λ is. absurd cc) (λ is. absurd cc)
+link_keeps version old new before now port_stops.OutOfMemory w failed wanted =
+    fault_keeps version old new before now faults.OutOfMemory (front_of_all old.told new.told before.told now.told (all_of_whole old.told new.told before.told now.told version w))
+    (λ is. absurd cc) (λ is. absurd cc) (λ is. inl (wanted refl))

@@ -1,9 +1,9 @@
 -- All that a run of lookups keeps, from its first three promises; and how its lookups go on behind
 -- the stream.
-use Rattle.std.proofs.Common.{◌≡◌, ◌≤◌, ℕ, ◌*◌, Option, Some, Result, Ok, Err, Bool, true, false, List, [], length, All, refl, sym, subst, ◌∙◌}
+use Rattle.std.proofs.Common.{◌≡◌, ◌≤◌, ℕ, ◌*◌, Option, Some, Bool, true, false, List, [], length, All, refl, sym, subst, ◌∙◌}
 use Rattle.std.specs.Prelude.{◌||◌, replicate}
 use Rattle.std.specs.List.{zip}
-use Rattle.std.proofs.lemmas.Bool.{or_left, or_right}
+use Rattle.std.proofs.lemmas.Bool.{or_right}
 use Rattle.sip_ports.specs.declared.port.TalkEvent.{TalkEvent}
 use Rattle.sip_ports.specs.Ports.{outs}
 use Rattle.sip_ports.proofs.TalkLemmas.{GoesOn-trans}
@@ -12,22 +12,19 @@ use Rattle.sip_vector.specs.Limits.{most_depth}
 use Rattle.sip_vector.specs.Pieces.{cut}
 use Rattle.sip_vector.specs.Streams.{IsLegal}
 use Rattle.sip_verifier.specs.declared.status.Status.{Status}
-use Rattle.sip_verifier.specs.declared.status.Status.TheVariants as statuses
 use Rattle.sip_verifier.specs.declared.task.Task.{Task}
 use Rattle.sip_verifier.specs.Exchanges.{Exchange, Tells}
 use Rattle.sip_verifier.specs.Gathering.{IsGathered}
 use Rattle.sip_verifier.specs.Inquiries.{run_over}
-use Rattle.sip_verifier.specs.Snapshots.{Counts, Snapshot, IsTold, counts}
+use Rattle.sip_verifier.specs.Snapshots.{Counts, Snapshot, IsTold}
 use Rattle.sip_verifier.specs.QuerySeats.{StandsFor}
 use Rattle.sip_verifier.specs.runs.Askers.{GoesBehind}
-use Rattle.sip_verifier.specs.runs.Concluding.{Ended, status_of}
+use Rattle.sip_verifier.specs.runs.Concluding.{Ended}
 use Rattle.sip_verifier.specs.runs.Runs.{updates}
 use Rattle.sip_verifier.specs.Seats.{Seating}
-use Rattle.sip_verifier.specs.Statuses as verify
-use Rattle.sip_verifier.specs.Statuses.{FaultClause, Stops, is_accepted, stops_gathering, stops_starting, stops_asking}
+use Rattle.sip_verifier.specs.Statuses.{FaultClause, is_accepted, stops_gathering, stops_starting, stops_asking}
 use Rattle.sip_verifier.proofs.Blocks.{are_blocks, IsBlock, none_drawn}
 use Rattle.sip_verifier.proofs.CompleteManners.{Judges, all_zipped, completes}
-use Rattle.sip_verifier.proofs.QueriesChecked.{since_before}
 use Rattle.sip_verifier.proofs.RunTalks.{Adds, said_is, written_is}
 use Rattle.sip_verifier.proofs.WrittenReports.{report_counts}
 use Rattle.sip_lookup.specs.Honest.{honesty}
@@ -44,25 +41,10 @@ use Rattle.sip_lookup.proofs.WrittenLooks.{few_looks, look_counts}
 
 -- ---- lists of statuses
 
-pub gathering_listed : (status : Status) → stops_gathering status ≡ true → IsListed status
-gathering_listed status is = or_left (is_accepted status || stops_gathering status) (stops_asking status) (or_right (is_accepted status) (stops_gathering status) is)
-
-pub asking_listed : (status : Status) → stops_asking status ≡ true → IsListed status
-asking_listed status is = or_right (is_accepted status || stops_gathering status) (stops_asking status) is
-
 -- each is one of those of `verify`
 more_listed : (a b c : Bool) → (a || c) ≡ true → (a || b || c) ≡ true
 more_listed true b c is = refl
 more_listed false b c is = or_right b c is
-
--- what came of the lookups has its cause since an earlier moment of the link and of the record, and
--- is listed
-pub asked_stops : (first firsts second seconds earlier peer peers report reports sooner keep keeps : ℕ) (r : Result (Unit {0}) Status) → earlier ≤ peer → sooner ≤ keep
-    → Stops stops_asking (counts first second peer report keep) (counts firsts seconds peers reports keeps) r
-    → FaultClause (counts first second earlier report sooner) (counts firsts seconds peers reports keeps) (status_of r) × IsListed (status_of r)
-asked_stops first firsts second seconds earlier peer peers report reports sooner keep keeps (Ok u) later still stops = (tt, refl)
-asked_stops first firsts second seconds earlier peer peers report reports sooner keep keeps (Err status) later still (is, fault) =
-    (since_before first firsts second seconds earlier peer peers report reports sooner keep keeps status later still fault, asking_listed status is)
 
 module _ (task : LookTask) (rooted : Task) (same_depth : rooted.depth ≡ task.depth) (same_form : rooted.form ≡ task.form)
     (queries : rooted.queries.items ≡ replicate (length task.lookups.items) rooted_query) (can : CanLookUp task) (some : 1 ≤ task.depth) (most : task.depth ≤ most_depth) where

@@ -76,6 +76,10 @@ module _ (version : Version) (depth : ℕ) (lookups : List Lookup) (seats : Seat
 
 -- ---- where one is left
 
+-- a lookup and the block of its seat
+abbrev pub asked_of : Lookup × Seated → Lookup × List ℕ
+asked_of x = (x.0, x.1.block)
+
 -- what is seen of the lookups once n of them were asked
 abbrev pub sitting_at : Version → ℕ → List Lookup → Seating → ℕ → Bool → LookSitting
 sitting_at version depth lookups seats n spent = record {
@@ -88,9 +92,6 @@ sitting_at version depth lookups seats n spent = record {
 module _ (version : Version) (depth : ℕ) (lookups : List Lookup) (seats : Seating) (n : ℕ) (was : Bool) (now : LookSitting) (is : sitting_at version depth lookups seats n was ≡ now) where
   abbrev pairs : List (Lookup × Seated)
   pairs = zip lookups seats.seats
-
-  abbrev asked_of : Lookup × Seated → Lookup × List ℕ
-  asked_of x = (x.0, x.1.block)
 
   -- there is a next lookup
   pub still_left : length seats.seats ≡ length lookups → 0 < length (remaining_of now).left → n < length lookups

@@ -1,5 +1,5 @@
 -- The entries of the interval of a place that stands alone state the true answer.
-use Rattle.std.proofs.Common.{◌≡◌, ◌≢◌, ℕ, zero, suc, ◌+◌, ◌-◌, ◌<◌, ◌≤◌, ◌^◌, true, false, List, [], ◌∷◌, length, fold, map, ℤ, pos, Option, Some, None, slice_get, refl, sym, ap, subst, ◌∙◌, inl, inr, arith, leb, eqb, ltb}
+use Rattle.std.proofs.Common.{◌≡◌, ◌≢◌, ℕ, zero, suc, ◌+◌, ◌-◌, ◌<◌, ◌≤◌, ◌^◌, true, false, List, [], ◌∷◌, length, map, ℤ, pos, Option, Some, None, slice_get, refl, sym, ap, subst, ◌∙◌, inl, inr, arith, leb, eqb, ltb}
 use Rattle.std.specs.Prelude.{nat_eq, option_to_list}
 use Rattle.std.specs.Cmp.{signed_Decides}
 use Rattle.std.specs.Cmp.Lexicographic.{pointwise}
@@ -9,6 +9,7 @@ use Rattle.sip_vector.specs.declared.update.Entry.{Entry}
 use Rattle.sip_vector.specs.Answers.{is_zero}
 use Rattle.sip_vector.specs.Vectors.{last_of, nonzero_within, number_at}
 use Rattle.sip_vector.specs.inside.Gathered.{IsFirstOf}
+use Rattle.sip_vector.proofs.LastEntry.{last_behind}
 use Rattle.sip_vector.proofs.Walks.{next-is, nonzero_within-next, nonzero_within-last}
 use Rattle.sip_replies.proofs.SameEntries.{same_entries}
 use Rattle.sip_subvec.specs.AcceptsSub.{stated_value}
@@ -95,10 +96,6 @@ without_zero numbers from hi le inside none =
     by_first (Some e) first =
         nonzero_within-next from hi numbers e (sym (next-is numbers from hi (Some e) inside (first_later numbers from hi (Some e) none first)))
         ∙ sym (nonzero_within-next (from + 1) hi numbers e (sym (next-is numbers (from + 1) hi (Some e) inside first)))
-
--- the last of these entries, or the one before them
-abbrev pub last_behind : Option Entry → List Entry → Option Entry
-last_behind o es = fold (λ (before : Option Entry) (e : Entry). Some e) o es
 
 -- an entry that stands alone from its place on is the last one of a longer interval too
 last_kept : (n : ℕ) (numbers : List ℤ) (from j hi : ℕ) (e : Entry) (o : Option Entry) → from + n ≡ j → j ≤ hi → hi < length numbers → nonzero_within j hi numbers ≡ e ∷ [] → last_behind o (nonzero_within from hi numbers) ≡ Some e

@@ -39,6 +39,7 @@ use Rattle.sip_helper.specs.Turns as turns
 use Rattle.sip_helper.specs.Turns.{HelperState, OpenQuery, version_opened, weights_after, with_updates, zero_vectors}
 use Rattle.sip_helper.specs.Vectors.{Vectors}
 use Rattle.sip_helper.proofs.OwedReplies.{added_again, due, from_zero, left_above, owed_honest}
+use Rattle.sip_wire.specs.Table.{most_queries}
 use Rattle.sip_lookup.specs.declared.lookup.Lookup.{Lookup}
 use Rattle.sip_lookup.specs.declared.lookup.Lookup.TheVariants.{Index, Pred, Succ}
 use Rattle.sip_lookup.specs.declared.serving.Stage.{Stage}
@@ -47,7 +48,7 @@ use Rattle.sip_lookup.specs.Frames.{ask_message, code_of, found_message}
 use Rattle.sip_lookup.specs.Honest.{honesty}
 use Rattle.sip_lookup.specs.Lookups.{honest_found, item_of, range_of}
 use Rattle.sip_lookup.specs.Owing.{CanFollow, all_turns, behind_pieces, plain, turns_for}
-use Rattle.sip_lookup.specs.Serving.{LookHelper, after_answer, look_rules, lookup_of, most_lookups, owed, step}
+use Rattle.sip_lookup.specs.Serving.{LookHelper, after_answer, look_rules, lookup_of, owed, step}
 use Rattle.sip_lookup.proofs.HonestLooks.{front_joined}
 use Rattle.sip_lookup.proofs.HonestPlaces.{place_proved}
 use Rattle.sip_lookup.proofs.NearEntries.{range_fits}
@@ -337,7 +338,7 @@ module _ (version : Version) (depth : ℕ) (stream : List Update) (w : Weights) 
           (plain (messages.Query (Sub low high)) ∷ reveals shown)) hears_ask
           ∙ reveals_close low high few_shown shown [] (n + 1) (n + 1) size
 
-      look_comes : n < most_lookups → AreTurnsBy look_rules (at n None n Due)
+      look_comes : n < most_queries → AreTurnsBy look_rules (at n None n Due)
           (turns_for depth numbers ask)
       look_comes room =
           let proved = place_proved depth numbers ask.0 (length-vector depth stream First)
@@ -353,7 +354,7 @@ module _ (version : Version) (depth : ℕ) (stream : List Update) (w : Weights) 
               to_helper = refl;
               in_range = tt;
             };
-            allowed = and_from _ _ (and_from _ _ (lt-ltb n most_lookups room)
+            allowed = and_from _ _ (and_from _ _ (lt-ltb n most_queries room)
                 (lt-ltb (item_of ask.0) (2 ^ depth) can.item)) (has_code ask.0);
           } in
           let second : IsTurnBy look_rules (at n None (n + 1) Found)
@@ -365,7 +366,7 @@ module _ (version : Version) (depth : ℕ) (stream : List Update) (w : Weights) 
               in_range =
                   tt;
             };
-            allowed = and_from _ _ (and_from _ _ (and_from _ _ refl (lt-ltb n most_lookups room))
+            allowed = and_from _ _ (and_from _ _ (and_from _ _ refl (lt-ltb n most_queries room))
                 refl) (lt-ltb high (2 ^ depth) interval.1);
           } in
           let rest = reveals_come low high few_shown shown [] (n + 1) (n + 1) size
@@ -413,7 +414,7 @@ module _ (version : Version) (depth : ℕ) (stream : List Update) (w : Weights) 
         ∙ ap (λ (l : List ℕ). honesty.honest_bytes version depth stream ask ++ l)
         (looks_say asks (n + 1) (All-tail (CanFollow depth) ask asks can))
 
-    looks_come : (asks : List (Lookup × List ℕ)) (n : ℕ) → n + length asks ≤ most_lookups
+    looks_come : (asks : List (Lookup × List ℕ)) (n : ℕ) → n + length asks ≤ most_queries
         → All (CanFollow depth) asks → AreTurnsBy look_rules (at n None n Due)
         (all_turns depth numbers asks)
     looks_come [] n room can = tt
@@ -499,7 +500,7 @@ module _ (version : Version) (depth : ℕ) (pieces : List (List Update))
       (turns_talk_by look_rules s (all_turns depth (vector depth all First) asks))) is.1
       ∙ looks_say version depth all is.0 some shallow asks 0 can
 
-  pub turns_come : length asks ≤ most_lookups
+  pub turns_come : length asks ≤ most_queries
       → AreTurnsBy look_rules (behind_pieces (number_of version) depth pieces)
       (all_turns depth (vector depth all First) asks)
   turns_come room =

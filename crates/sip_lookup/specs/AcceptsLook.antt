@@ -10,7 +10,8 @@ use Rattle.sip_wire.specs.declared.message.Reason.TheVariants as reasons
 use Rattle.sip_wire.specs.declared.version.Version.{Version}
 use Rattle.sip_subvec.specs.Counting.{accepts_sub, said}
 use Rattle.sip_lookup.specs.Frames.{read_found}
-use Rattle.sip_lookup.specs.Lookups.{Looked, are_alone, is_possible, is_same_answer, near, range_of, stated_answer}
+use Rattle.sip_lookup.specs.Lookups.{Looked, are_alone, is_possible, is_same_answer, near, range_of}
+use Rattle.sip_lookup.specs.Lookups.{stated_answer}
 use Rattle.sip_lookup.specs.declared.lookup.Lookup.{Lookup}
 
 -- the place that was found, and the sub-vector's replies

@@ -1,6 +1,7 @@
--- The turns of a verifier that keeps to the order of its talk, so that what a helper of lookups says
--- in them can be told.
-use Rattle.std.specs.Prelude.{ℕ, ◌≡◌, ◌-◌, ◌<◌, false, ℤ, All, List, ◌∷◌, flat_map, length, map, take}
+-- The turns of a verifier that keeps to the order of its talk, so that what a helper of lookups
+-- says in them can be told.
+use Rattle.std.specs.Prelude.{ℕ, ◌≡◌, ◌-◌, ◌<◌, false, ℤ, All, List, ◌∷◌, flat_map, length, map}
+use Rattle.std.specs.Prelude.{take}
 use Rattle.sip_field.specs.Moduli.{m61_modulus}
 use Rattle.sip_vector.specs.declared.query.Query.TheVariants.{Sub}
 use Rattle.sip_vector.specs.declared.update.Update.{Update}

@@ -2,7 +2,8 @@
 --
 -- Reply 0 of a lookup is a Found and behind it the sub-vector's reply 0, which is asked for only
 -- once the Found was taken whole and names a place that may be found.
-use Rattle.std.specs.Prelude.{◌≡◌, ◌≢◌, ◌⊎◌, ℕ, false, IsTrue, ⊤, List, [], ◌∷◌, ◌++◌, Option, Result, Ok, Err, if◌then◌else◌}
+use Rattle.std.specs.Prelude.{◌≡◌, ◌≢◌, ◌⊎◌, ℕ, false, IsTrue, ⊤, List, [], ◌∷◌, ◌++◌, Option}
+use Rattle.std.specs.Prelude.{Result, Ok, Err, if◌then◌else◌}
 use Rattle.sip_field.specs.Moduli.{m61_modulus}
 use Rattle.sip_ports.specs.declared.port.TalkEvent.{TalkEvent}
 use Rattle.sip_ports.specs.Ports.{ins}
@@ -147,8 +148,8 @@ module _ (version : Version) (depth : ℕ) (stream : List Update) where
 
   -- ---- a keeper that failed
 
-  -- A Found came, or a part of it, and could not be kept. So it was not judged, and is no reply that
-  -- was taken; nothing was said behind it.
+  -- A Found came, or a part of it, and could not be kept. So it was not judged, and is no reply
+  -- that was taken; nothing was said behind it.
   pub record IsFoundUnjudged (q : Question) (ended : List TalkEvent) : Type 0 where
     pub none : q.replies ≡ []
     pub first : List ℕ

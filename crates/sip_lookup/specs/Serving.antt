@@ -4,7 +4,8 @@
 -- ends. To a lookup it says the place of its answer, and then takes the query about the interval,
 -- with its challenges, as a helper of queries does, until that is closed. Where memory was refused
 -- while the stream was heard, a lookup is refused, and the next may be asked.
-use Rattle.std.specs.Prelude.{ℕ, ◌+◌, ◌^◌, Bool, true, false, ◌&&◌, ◌==◌, nat_lt, is_some, List, [], ◌∷◌, Option, Some, None, if◌then◌else◌}
+use Rattle.std.specs.Prelude.{ℕ, ◌+◌, ◌^◌, Bool, true, false, ◌&&◌, ◌==◌, nat_lt, is_some, List, []}
+use Rattle.std.specs.Prelude.{◌∷◌, Option, Some, None, if◌then◌else◌}
 use Rattle.std.specs.List.{flat_map}
 use Rattle.sip_ports.specs.declared.port.TalkEvent.{TalkEvent}
 use Rattle.sip_vector.specs.declared.update.Side.TheVariants.{First}
@@ -16,10 +17,11 @@ use Rattle.sip_wire.specs.declared.message.Message.TheVariants as messages
 use Rattle.sip_wire.specs.Spelling.{spelling}
 use Rattle.sip_helper.specs.declared.status.HelpStatus.{HelpStatus}
 use Rattle.sip_helper.specs.KindRows.{refusal, want_of_memory}
-use Rattle.sip_helper.specs.Rules.{Rules, ServesBy}
+use Rattle.sip_helper.specs.Rules.{TurnRules, ServesBy}
 use Rattle.sip_helper.specs.Shown.{shown_vector}
 use Rattle.sip_helper.specs.Turns.{HelperState, fresh, may_hear, whole_of}
 use Rattle.sip_helper.specs.Turns as turns
+use Rattle.sip_wire.specs.Table.{most_queries}
 use Rattle.sip_lookup.specs.declared.lookup.Lookup.{Lookup}
 use Rattle.sip_lookup.specs.declared.lookup.Lookup.TheVariants.{Index, Pred, Succ}
 use Rattle.sip_lookup.specs.declared.serving.Stage.{Stage}
@@ -28,10 +30,6 @@ use Rattle.sip_lookup.specs.Frames.{found_message}
 use Rattle.sip_lookup.specs.Lookups.{honest_found}
 
 -- ---- the state
-
--- the most lookups of a talk
-abbrev pub most_lookups : ℕ
-most_lookups = 16
 
 -- what was heard of the stream, and of the queries; how many lookups were asked, how far the one
 -- under way is, and whether the talk is over
@@ -57,7 +55,7 @@ lookup_of code item =
 -- a lookup may be asked of a stream of this depth, behind so many
 abbrev pub may_look : ℕ → ℕ → ℕ → ℕ → Bool
 may_look depth asked code item =
-    nat_lt asked most_lookups && nat_lt item (2 ^ depth) && is_some (lookup_of code item)
+    nat_lt asked most_queries && nat_lt item (2 ^ depth) && is_some (lookup_of code item)
 
 -- what may come where a lookup is due, or the end
 abbrev pub may_question : ℕ → ℕ → Message → Bool
@@ -138,7 +136,7 @@ after_answer s = if owes s then after_reply s else s
 
 -- ---- on a link
 
-abbrev pub look_rules : Rules LookHelper
+abbrev pub look_rules : TurnRules LookHelper
 look_rules = record {
   version = λ s. s.helper.version;
   place = place_due;

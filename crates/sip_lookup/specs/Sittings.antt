@@ -10,8 +10,8 @@ use Rattle.sip_lookup.specs.declared.lookup.Lookup.{Lookup}
 use Rattle.sip_lookup.specs.declared.answer.LookAnswer.{LookAnswer}
 use Rattle.sip_lookup.specs.declared.answer.LookAnswer.TheVariants as answers
 
--- The version of the talk, the depth, the lookups that were not asked yet, each with a seat that has
--- the root of side 0, and whether it is over before its time.
+-- The version of the talk, the depth, the lookups that were not asked yet, each with a seat that
+-- has the root of side 0, and whether it is over before its time.
 pub record LookSitting : Type 0 where
   pub version : Version
   pub depth : ℕ

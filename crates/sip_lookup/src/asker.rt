@@ -1,22 +1,22 @@
 //! The lookups of a run, asked one after another.
 
-ghost use Rattle.std.specs.Prelude.{◌≡◌, ◌≤◌, ◌^◌, ℕ, All, IsTrue, IfErr, IfOk, List, false, length, nat_lt, vec_capacity};
+ghost use Rattle.std.specs.Prelude.{◌≡◌, ◌≤◌, ◌^◌, ℕ, All, IsTrue, IfErr, IfOk, List, false};
+ghost use Rattle.std.specs.Prelude.{length, nat_lt, vec_capacity};
 ghost use Rattle.std.specs.List.{list_all, zip};
 ghost use Rattle.sip_subvec.specs.Replies.{most_entries};
 ghost use Rattle.sip_wire.specs.Versions.{deepest};
-ghost use Rattle.sip_verifier.specs.runs.Askers.{has_failed};
 ghost use Rattle.sip_verifier.specs.SeatNumbers.{has_root, queries_of};
 ghost use Rattle.sip_lookup.specs.Lookups.{CanLook, item_of};
 
 use crate::answer::{LookAnswer, write_look};
-use crate::asking::ask_look;
+use crate::look_asking::ask_look;
 use crate::lookup::Lookup;
 use crate::task::LookTask;
 use arrayvec::ArrayVec;
 use sip_ports::{Link, PortStop, Sink};
 use sip_subvec::MOST_ENTRIES;
 use sip_vector::{Depth, Entry};
-use sip_verifier::{Asker, Seats, Status, Unanswered};
+use sip_verifier::{Asker, Seats, Status, Unanswered, has_failed};
 use sip_wire::{Frame, MOST_QUERIES, Message, Version, encode};
 use std::alloc::Global;
 use std::marker::Model;
@@ -71,8 +71,8 @@ impl Model for Looker {
 impl Looker {
     ghost use Rattle.sip_lookup.specs.Tasks.{CanLookUp, version_of};
 
-    /// The lookups of a task, over seats that were gathered for it. Takes a frame of 8,709 bytes and
-    /// 16 bytes for each of 65,536 entries.
+    /// The lookups of a task, over seats that were gathered for it. Takes a frame of 8,709 bytes
+    /// and 16 bytes for each of 65,536 entries.
     ///
     /// # Errors
     ///
@@ -112,16 +112,6 @@ impl Looker {
             entries,
             is_spent: false,
         })
-    }
-}
-
-// Whether a call of a port failed: a rejection is a verdict.
-fn has_failed(asked: &Result<LookAnswer, Unanswered>) -> bool
-    ensures { result ≡ has_failed asked.now }
-{
-    match asked {
-        Err(Unanswered::Fault(_)) => true,
-        _ => false,
     }
 }
 

@@ -2,7 +2,8 @@
 //! nothing: each contract is a fact that holds.
 #![tactic(auto, unfolding(crate::specs::Frames::read_found, sip_subvec::specs::Honest::honest_messages, sip_wire::specs::Spelling::spelling, sip_wire::specs::Spelling::in_bytes, sip_wire::specs::Spelling::spelled, sip_replies::specs::Replies::run_from, sip_replies::specs::Replies::read_from, sip_wire::specs::Reading::read_frame, sip_wire::specs::Spelling::frame_fault, sip_wire::specs::Spelling::kind_fault, sip_wire::specs::Spelling::body_fault, sip_wire::specs::Spelling::asked, sip_wire::specs::Spelling::numbers_in, sip_wire::specs::Spelling::all_hold))]
 
-ghost use Rattle.std.specs.Prelude.{◌≡◌, [], ◌∷◌, ◌++◌, codes, take, Ok, Err, Some, None, true, false, pos, replicate};
+ghost use Rattle.std.specs.Prelude.{◌≡◌, [], ◌∷◌, ◌++◌, codes, take, Ok, Err, Some, None, true};
+ghost use Rattle.std.specs.Prelude.{false, pos, replicate};
 ghost use Rattle.sip_ports.specs.Ports.{ins, outs};
 ghost use Rattle.sip_replies.specs.Talks.{asked};
 ghost use Rattle.sip_subvec.specs.Examples.{reply_0, reply_1};
@@ -19,7 +20,8 @@ ghost use Rattle.sip_lookup.specs.Frames.{ask_message, found_message, read_found
 ghost use Rattle.sip_lookup.specs.Honest.{honest_looks};
 ghost use Rattle.sip_lookup.specs.Questions.{said_for};
 ghost use Rattle.sip_lookup.specs.Reports.{look_line};
-ghost use Rattle.sip_lookup.specs.Lookups.{are_alone, honest_found, is_possible, near, nearest, range_of, value};
+ghost use Rattle.sip_lookup.specs.Lookups.{are_alone, honest_found, is_possible, near, nearest};
+ghost use Rattle.sip_lookup.specs.Lookups.{range_of, value};
 
 /// The answers to lookups in (3, 0, 5, 1), and in four zeros.
 pub fn answers_by_hand()
@@ -68,7 +70,8 @@ pub fn frames_by_hand()
 
 /// A Found is read with what follows it, or has this first fault.
 pub fn found_frames_by_hand()
-    ensures some { read_found One (spelling One (found_message (Some 2)) ++ 7 ∷ []) ≡ Ok (Some 2, 7 ∷ []) }
+    ensures some { read_found One (spelling One (found_message (Some 2)) ++ 7 ∷ [])
+        ≡ Ok (Some 2, 7 ∷ []) }
     ensures none { read_found Two (spelling Two (found_message None)) ≡ Ok (None, []) }
     ensures closed { read_found One (0x22 ∷ 0x00 ∷ []) ≡ Err reasons.Closed }
     ensures cut { read_found One (0x22 ∷ 0x00 ∷ 0x09 ∷ 0x01 ∷ replicate 7 0)

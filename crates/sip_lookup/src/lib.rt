@@ -13,11 +13,11 @@
 //! | `AcceptsLook` | when replies are accepted, and at how many challenges wrong ones are |
 //! | `Serving` | the turns of a helper of lookups, and what it does on a link |
 //! | `Tasks` | which tasks can be done, and what a run asks |
-//! | `Questions` | a lookup with its block and its reply bytes: what is said for it, when its replies are accepted, and their fault |
+//! | `Questions` | a lookup with its block: when its reply bytes are accepted, and their fault |
 //! | `Reports` | the lines of answers |
 //! | `Honest` | what an honest helper replies |
 //! | `Promises` | what a run promises, and all that it keeps |
-//! | `Sittings`, `Hearing` | what is seen of the lookups while they are asked, and what a call did that receives a Found |
+//! | `Sittings`, `Hearing` | the lookups while they are asked; what a call did that heard a Found |
 //!
 //! [`laws`] works out examples of each. [`counting`] has the theorem on helpers that lie: at most
 //! d·p^(d-1) of the p^d vectors of challenges have a wrong answer accepted.
@@ -32,9 +32,9 @@
 
 mod answer;
 mod asker;
-mod asking;
 pub mod counting;
 pub mod laws;
+mod look_asking;
 mod lookup;
 pub mod owing;
 mod running;
@@ -43,7 +43,7 @@ mod serving;
 mod task;
 
 pub use answer::LookAnswer;
-pub use asking::ask_look;
+pub use look_asking::ask_look;
 pub use lookup::Lookup;
 pub use running::look_stream;
 pub use serving::serve_look;

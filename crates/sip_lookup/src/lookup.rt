@@ -2,7 +2,8 @@
 
 ghost use Rattle.std.specs.Prelude.{◌≡◌, ◌<◌, ◌≤◌, ◌^◌, IsTrue};
 ghost use Rattle.sip_lookup.specs.Frames.{code_of};
-ghost use Rattle.sip_lookup.specs.Lookups.{are_alone, is_possible, item_of, range_of, stated_answer};
+ghost use Rattle.sip_lookup.specs.Lookups.{are_alone, is_possible, item_of, range_of};
+ghost use Rattle.sip_lookup.specs.Lookups.{stated_answer};
 ghost use Rattle.sip_lookup.specs.Sittings.{looked_of};
 ghost use Rattle.sip_subvec.specs.AcceptsSub.{stated_value};
 

@@ -9,10 +9,11 @@ ghost use Rattle.sip_vector.specs.Streams.{vector};
 ghost use Rattle.sip_wire.specs.declared.version.Version.{Version};
 ghost use Rattle.sip_wire.specs.Versions.{deepest, number_of};
 ghost use Rattle.sip_helper.specs.Rules.{AreTurnsBy, turns_talk_by};
+ghost use Rattle.sip_wire.specs.Table.{most_queries};
 ghost use Rattle.sip_lookup.specs.declared.lookup.Lookup.{Lookup as AnyLookup};
 ghost use Rattle.sip_lookup.specs.Honest.{honesty};
 ghost use Rattle.sip_lookup.specs.Owing.{CanFollow, all_turns, behind_pieces};
-ghost use Rattle.sip_lookup.specs.Serving.{look_rules, most_lookups};
+ghost use Rattle.sip_lookup.specs.Serving.{look_rules};
 
 /// Behind a stream in any pieces, for which no memory was refused, the turns of up to 16 lookups at
 /// their blocks may come, and what the helper says in them are the honest bytes of a run of these
@@ -20,7 +21,7 @@ ghost use Rattle.sip_lookup.specs.Serving.{look_rules, most_lookups};
 pub fn honest_bytes_are_said()
     ensures turns { (version : Version) (depth : ℕ) (pieces : List (List AnyUpdate))
         (asks : List (AnyLookup × List ℕ)) → 1 ≤ depth → depth ≤ deepest version
-        → All (CanFollow depth) asks → length asks ≤ most_lookups
+        → All (CanFollow depth) asks → length asks ≤ most_queries
         → AreTurnsBy look_rules (behind_pieces (number_of version) depth pieces)
         (all_turns depth (vector depth (flat_map (λ us. us) pieces) First) asks) }
     ensures bytes { (version : Version) (depth : ℕ) (pieces : List (List AnyUpdate))

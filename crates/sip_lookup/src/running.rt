@@ -16,7 +16,7 @@ use sip_verifier::{Status, conclude_run, gather};
 use std::alloc::Global;
 
 /// All that a run does, up to its first stop.
-fn steps<A: Source, B: Source, L: Link, K: Sink>(
+fn look_steps<A: Source, B: Source, L: Link, K: Sink>(
     alloc: Global,
     task: &LookTask,
     first: &mut A,
@@ -85,7 +85,7 @@ pub fn look_stream<A: Source, B: Source, L: Link, K: Sink>(
     ensures peer { Lasts L.faults L.wants L.is_sure peer.old peer.new }
     ensures report { Lasts K.faults K.wants K.is_sure report.old report.new }
 {
-    match steps(alloc, task, first, second, peer, report) {
+    match look_steps(alloc, task, first, second, peer, report) {
         Ok(()) => Status::Accepted,
         Err(status) => status,
     }

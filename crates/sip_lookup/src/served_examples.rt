@@ -4,7 +4,8 @@
 
 ghost use Rattle.std.specs.Prelude.{◌≡◌, [], ◌∷◌, ◌++◌, replicate, false, true};
 ghost use Rattle.sip_wire.specs.declared.message.Message.TheVariants as messages;
-ghost use Rattle.sip_lookup.specs.ServedExamples.{asked_about, asked_above, behind_stream, challenged, having_heard};
+ghost use Rattle.sip_lookup.specs.ServedExamples.{asked_about, asked_above, behind_stream};
+ghost use Rattle.sip_lookup.specs.ServedExamples.{challenged, having_heard};
 ghost use Rattle.sip_vector.specs.declared.query.Query.TheVariants as queries;
 ghost use Rattle.sip_lookup.specs.declared.lookup.Lookup.TheVariants as lookups;
 ghost use Rattle.sip_lookup.specs.Serving.{after_answer, is_allowed, owed};
@@ -32,6 +33,7 @@ pub fn turns_by_hand()
     ensures high_code { is_allowed behind_stream (messages.AskLook 4 3) ≡ false }
     ensures end { is_allowed behind_stream messages.End ≡ true }
     ensures bye { is_allowed (after_answer asked_above) messages.Bye ≡ false }
-    ensures query { is_allowed (after_answer asked_above) (messages.Query (queries.Sub 1 2)) ≡ true }
+    ensures query { is_allowed (after_answer asked_above) (messages.Query (queries.Sub 1 2))
+        ≡ true }
     ensures most { is_allowed (record behind_stream { asked = 16 }) (messages.AskLook 1 3) ≡ false }
 {}

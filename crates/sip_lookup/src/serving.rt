@@ -8,18 +8,16 @@ ghost use Rattle.sip_helper.specs.Turns.{whole_of};
 ghost use Rattle.sip_helper.specs.Turns as turns;
 ghost use Rattle.sip_lookup.specs.Frames.{found_message};
 ghost use Rattle.sip_lookup.specs.Lookups.{CanLook, honest_found};
-ghost use Rattle.sip_lookup.specs.Serving.{ServesLooks, after_answer, fresh_look, lookup_of, may_look, may_question, owed, step};
+ghost use Rattle.sip_lookup.specs.Serving.{ServesLooks, after_answer, fresh_look, lookup_of};
+ghost use Rattle.sip_lookup.specs.Serving.{may_look, may_question, owed, step};
 
 use crate::Lookup;
 use sip_helper::{HelpStatus, HelperCore, Helps, OutOfTurn, WANT_OF_MEMORY, put_refusal, talk};
 use sip_ports::{Link, PortStop, Sink};
 use sip_vector::{Depth, Side, Vector};
-use sip_wire::{Message, Place, Version, encode};
+use sip_wire::{MOST_QUERIES, Message, Place, Version, encode};
 use std::alloc::Global;
 use std::marker::Model;
-
-/// The most lookups of a talk.
-const MOST_LOOKUPS: u8 = 16;
 
 /// How far the lookup is that is under way.
 #[derive(Clone, Copy, Debug, PartialEq, Eq)]
@@ -126,7 +124,7 @@ impl LookCore {
             (self.new ≡ step self.old false (messages.AskLook code item)) }
         ensures same { OnErr result (self.new ≡ self.old) }
     {
-        if self.asked >= MOST_LOOKUPS {
+        if self.asked >= MOST_QUERIES as u8 {
             return Err(OutOfTurn);
         }
         if item >= 1 << depth.get() {
@@ -244,16 +242,19 @@ impl Helps for LookCore {
     }
 }
 
-/// Hears a talk of lookups and answers, until its end. Frames are in the version of the opening, and in version 1 up to it.
+/// Hears a talk of lookups and answers, until its end. Frames are in the version of the opening,
+/// and in version 1 up to it.
 ///
-/// The stream is heard as by `sip_helper::serve`. Behind it a lookup is asked, or the talk ends. To a lookup the place of its answer
-/// goes out, and then the query about the interval and its challenges are answered as there, until it is closed. Where memory was
-/// refused while the stream was heard a lookup is refused for want of it, and the next may be asked. A lookup is out of turn where its
-/// item is not below 2^depth, its code is not 1 to 3, or 16 were asked before it, and a Bye always is.
+/// The stream is heard as by `sip_helper::serve`. Behind it a lookup is asked, or the talk ends. To
+/// a lookup the place of its answer goes out, and then the query about the interval and its
+/// challenges are answered as there, until it is closed. Where memory was refused while the stream
+/// was heard a lookup is refused for want of it, and the next may be asked. A lookup is out of turn
+/// where its item is not below 2^depth, its code is not 1 to 3, or 16 were asked before it, and a
+/// Bye always is.
 ///
-/// Memory is taken for one frame, which comes first, for the two vectors, and for what the replies to a query are made from; a place
-/// takes none. Where there is none for the frame the link is left alone; from then on `OutOfMemory` comes only where the link's count
-/// of wants rose.
+/// Memory is taken for one frame, which comes first, for the two vectors, and for what the replies
+/// to a query are made from; a place takes none. Where there is none for the frame the link is left
+/// alone; from then on `OutOfMemory` comes only where the link's count of wants rose.
 pub fn serve_look<L: Link>(alloc: Global, link: &mut L) -> HelpStatus
     ensures serves { ServesLooks (L.talk link.old) (L.talk link.new) result }
     ensures cause { result ≡ HelpStatus.PeerFault

@@ -1,10 +1,11 @@
 // The helper's end of talks of lookups, and both ends, each over what the other one sent.
-ghost use Rattle.std.specs.Prelude.{◌≤◌, IfOk};
+ghost use Rattle.std.specs.Prelude.{IfOk};
 ghost use Rattle.sip_lookup.specs.Tasks.{CanLookUp};
 
-use crate::events::sent_in;
 use crate::facts::expect;
 use arrayvec::ArrayVec;
+use sip_check_tests::events::sent_in;
+use sip_check_tests::serving::{Server, is_served, served};
 use sip_field::{Field, M61, draw_challenges};
 use sip_helper::HelpStatus;
 use sip_lookup::{LookTask, Lookup, look_stream, serve_look};
@@ -138,42 +139,26 @@ const OUT_OF_TURNS: [Talk; 7] = [
     ),
 ];
 
-// How a helper over these bytes ends, and what it sends.
-fn served(rt: &impl Abort, alloc: Global, incoming: &[u8], chunk: usize) -> (HelpStatus, Vec<u8>)
-    requires { 1 ≤ chunk }
-{
-    let incoming = incoming.to_vec(alloc).expect(rt, "memory");
-    let mut link = MemoryLink::new(alloc, incoming, chunk, Vec::new(alloc));
-    let status = serve_look(alloc, &mut link);
-    let sent = sent_in(rt, alloc, link.talk());
-    (status, sent)
+// The helper of lookups.
+struct Helper;
+
+impl Server for Helper {
+    type End = HelpStatus;
+
+    fn serve(alloc: Global, link: &mut MemoryLink) -> HelpStatus {
+        serve_look(alloc, link)
+    }
 }
 
-// Whether a helper over these bytes ends so, and whether it sends this.
-fn is_served(
-    rt: &impl Abort,
-    alloc: Global,
-    talk: &[u8],
-    chunk: usize,
-    status: HelpStatus,
-    want: &[u8],
-) -> [bool; 2]
-    requires { 1 ≤ chunk }
-{
-    let (ended, sent) = served(rt, alloc, talk, chunk);
-    [ended == status, sent.as_slice() == want]
-}
-
+// Each talk, in pieces of one byte and in one piece.
 fn are_served(rt: &impl Abort, alloc: Global, talks: &[Talk]) {
     for (name, parts, status, want) in talks {
         let talk = parts.concat(alloc).expect(rt, "memory");
         let want = want.concat(alloc).expect(rt, "memory");
-        expect(rt, name, &is_served(rt, alloc, &talk, 1, *status, &want));
-        expect(
-            rt,
-            name,
-            &is_served(rt, alloc, &talk, 10_000, *status, &want),
-        );
+        for chunk in [1, 10_000] {
+            let facts = is_served::<Helper>(alloc, &talk, chunk, *status, &want);
+            expect(rt, name, &facts.expect(rt, "memory"));
+        }
     }
 }
 
@@ -212,8 +197,8 @@ fn the_17th_lookup_is_out_of_turn(rt: HostRuntime) {
     let end = HelpStatus::BadFrame {
         offset: 8 + 16 * 24,
     };
-    let is_served = is_served(&rt, alloc, &talk, 7, end, &want);
-    expect(&rt, "17 lookups", &is_served);
+    let facts = is_served::<Helper>(alloc, &talk, 7, end, &want);
+    expect(&rt, "17 lookups", &facts.expect(&rt, "memory"));
 }
 
 // ---- both ends
@@ -427,7 +412,7 @@ fn is_looked(
     Ok([
         status == Status::Accepted,
         report.bytes() == run.report,
-        sent_in(rt, alloc, peer.talk()).as_slice() == asked,
+        sent_in(alloc, peer.talk()).expect(rt, "memory").as_slice() == asked,
     ])
 }
 
@@ -435,7 +420,7 @@ fn is_looked(
 // its question, so this is what both come to over one link.
 fn are_one_talk(rt: &impl Abort, alloc: Global, run: &Run) -> Result<(), Fail> {
     let asked = said_in(rt, alloc, run);
-    let (end, replies) = served(rt, alloc, &asked, 5);
+    let (end, replies) = served::<Helper>(alloc, &asked, 5, &[]).expect(rt, "memory");
     expect(rt, run.name, &[end == HelpStatus::Served]);
     expect(rt, run.name, &is_looked(rt, alloc, run, replies, &asked)?);
     Ok(())

@@ -2,9 +2,9 @@
 ghost use Rattle.std.specs.Prelude.{◌≤◌, IfOk};
 ghost use Rattle.sip_lookup.specs.Tasks.{CanLookUp};
 
-use crate::events::events;
 use crate::facts::expect;
 use arrayvec::ArrayVec;
+use sip_check_tests::events::events;
 use sip_lookup::{LookTask, Lookup, look_stream};
 use sip_ports::{MemoryLink, MemorySink, MemorySource, TalkEvent};
 use sip_stream::Form;
@@ -333,7 +333,7 @@ fn task(lookup: Lookup) -> Result<LookTask, Fail>
 // All that is sent and received in a run, and what is received of it.
 fn talk_of(rt: &impl Abort, alloc: Global, row: &Row) -> (Vec<TalkEvent>, Vec<u8>) {
     let (_, _, stream, _, parts, want, _) = row;
-    let mut talk = events(rt, alloc, &[(true, *stream)]);
+    let mut talk = events(alloc, &[(true, *stream)]).expect(rt, "memory");
     let mut heard = Vec::new(alloc);
     for (turn, bytes) in parts.iter().enumerate() {
         for byte in *bytes {

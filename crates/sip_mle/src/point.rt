@@ -1,5 +1,6 @@
 //! The extension of a vector at the challenges of a seat, as a running number.
-ghost use Rattle.std.specs.Prelude.{◌≡◌, ℕ, ◌+◌, ◌*◌, ◌%◌, ◌^◌, ◌<◌, ◌≤◌, ℤ, pos, List, ◌++◌, All, length, min, replicate};
+ghost use Rattle.std.specs.Prelude.{◌≡◌, ℕ, ◌+◌, ◌*◌, ◌%◌, ◌^◌, ◌<◌, ◌≤◌, ℤ, pos, List, ◌++◌, All};
+ghost use Rattle.std.specs.Prelude.{length, min, replicate};
 ghost use Rattle.sip_field.specs.Residue.{residue};
 ghost use Rattle.sip_mle.specs.Blocks.{point_after};
 ghost use Rattle.sip_mle.specs.StandsFor.{PointStandsFor};
@@ -12,8 +13,8 @@ ghost use Rattle.sip_vector.specs.declared.update.Side.{Side as AnySide};
 ghost use Rattle.sip_vector.specs.declared.update.Update.{Update as AnyUpdate};
 
 use crate::factor::times_chi;
-use sip_field::{Factors, Field, Seat, by_tables, fill_tables};
-use sip_vector::Update;
+use sip_field::{Factors, Field, Seat, fill_tables};
+use sip_vector::{Update, added_by_tables};
 
 /// The shortest block for which tables are made: below it they cost more than they save.
 const BLOCK: usize = 32;
@@ -63,6 +64,7 @@ impl<F: Field, const CAP: usize> Point<F, CAP> {
     /// One `times` for an update and seven challenges, and 127 for seven challenges, whose table of
     /// products is on the stack for this call. A block of less than 32 updates is `update` for
     /// each.
+    #[inline(never)]
     pub fn update_all(&mut self, updates: &[Update])
         requires depth { length self.old.seat ≤ most_depth }
         requires items { All (λ u. u.item < 2 ^ length self.old.seat) updates.now }
@@ -79,14 +81,10 @@ impl<F: Field, const CAP: usize> Point<F, CAP> {
                 self.update(update.item, update.delta);
             }
         } else {
-            let mut tables = [[1; 128]; 7];
+            let mut tables = [[0; 128]; 7];
             let count = fill_tables(&mut tables, &self.seat, Factors::Extension);
-            let mut sum = F::of_number(self.value);
-            for update in updates {
-                let delta = F::of_signed(update.delta);
-                sum = sum.plus(by_tables(delta, &tables[..count], update.item));
-            }
-            self.value = sum.number();
+            let point = F::of_number(self.value);
+            self.value = added_by_tables(point, &tables[..count], updates).number();
         }
     }
 

@@ -3,8 +3,6 @@
 #![tactic(auto)]
 
 #[cfg(test)]
-mod events;
-#[cfg(test)]
 mod facts;
 #[cfg(test)]
 mod moment_check_tests;

@@ -1,6 +1,6 @@
 //! Moments that are accepted, and one that is not asked. The replies were worked out apart from the
 //! program.
-use crate::moment_runs::{Asked, END, Talk, check, one, task};
+use crate::moment_runs::{END, MomentRounds, Talk, check, one, task};
 use sip_moments::Moment;
 use sip_vector::Side;
 use sip_verifier::Status;
@@ -19,8 +19,8 @@ const EIGHT_SENT: [u8; 91] = [
 ];
 
 // The moments of degree 3 to 8 of both sides, in turn.
-const SIX: [Asked; 6] = [
-    Asked {
+const SIX: [MomentRounds; 6] = [
+    MomentRounds {
         side: Side::First,
         degree: 3,
         claim: -105,
@@ -46,7 +46,7 @@ const SIX: [Asked; 6] = [
             ),
         ],
     },
-    Asked {
+    MomentRounds {
         side: Side::Second,
         degree: 4,
         claim: 272,
@@ -74,7 +74,7 @@ const SIX: [Asked; 6] = [
             ),
         ],
     },
-    Asked {
+    MomentRounds {
         side: Side::First,
         degree: 5,
         claim: -2913,
@@ -114,7 +114,7 @@ const SIX: [Asked; 6] = [
             ),
         ],
     },
-    Asked {
+    MomentRounds {
         side: Side::Second,
         degree: 6,
         claim: 4160,
@@ -157,7 +157,7 @@ const SIX: [Asked; 6] = [
             ),
         ],
     },
-    Asked {
+    MomentRounds {
         side: Side::First,
         degree: 7,
         claim: -76065,
@@ -203,7 +203,7 @@ const SIX: [Asked; 6] = [
             ),
         ],
     },
-    Asked {
+    MomentRounds {
         side: Side::Second,
         degree: 8,
         claim: 65792,
@@ -328,7 +328,7 @@ const HEAVY_SENT: [u8; 26] = [
     1, 0, 2, 1, 1, 2, 0, 15, 0, 1, 0, 0, 0, 0, 0, 0, 0, 0, 0, 0, 0, 0, 0xb6, 3, 0, 0,
 ];
 
-const LIMIT: Asked = Asked {
+const LIMIT: MomentRounds = MomentRounds {
     side: Side::First,
     degree: 8,
     claim: 1151936657823500641,

@@ -15,7 +15,7 @@ use std::test::Fail;
 
 /// A question for a moment: the claim, and for each round the challenge that was revealed before
 /// it, which reply 0 has not, with the polynomial.
-pub(crate) struct Asked {
+pub(crate) struct MomentRounds {
     pub(crate) side: Side,
     pub(crate) degree: u8,
     pub(crate) claim: i64,
@@ -64,7 +64,7 @@ impl Talk {
     }
 
     /// A question, and all replies to it.
-    pub(crate) fn ask(&mut self, rt: &impl Abort, asked: &Asked) {
+    pub(crate) fn ask(&mut self, rt: &impl Abort, asked: &MomentRounds) {
         let side = match asked.side {
             Side::First => 0,
             Side::Second => 1,

@@ -1,9 +1,8 @@
 // What a helper of moments says, over whole talks, and a run of moments against what it said.
-ghost use Rattle.std.specs.Prelude.{◌≤◌};
-
-use crate::events::sent_in;
 use crate::facts::expect;
 use crate::moment_runs::one;
+use sip_check_tests::events::sent_in;
+use sip_check_tests::serving::{Server, first_unserved, is_served, served};
 use sip_helper::HelpStatus;
 use sip_moments::{moment_stream, serve_moments};
 use sip_ports::{MemoryLink, MemorySink, MemorySource};
@@ -203,51 +202,21 @@ const REFUSED: [Talk; 12] = [
     ),
 ];
 
-// Serves a talk over a link in memory, and answers how it ended and what was sent.
-fn served(
-    rt: &impl Abort,
-    alloc: Global,
-    incoming: &[u8],
-    chunk: usize,
-    fails: &[u64],
-) -> (HelpStatus, Vec<u8>)
-    requires { 1 ≤ chunk }
-{
-    let incoming = incoming.to_vec(alloc).expect(rt, "memory");
-    let fails = fails.to_vec(alloc).expect(rt, "memory");
-    let mut link = MemoryLink::new(alloc, incoming, chunk, fails);
-    let status = serve_moments(alloc, &mut link);
-    let sent = sent_in(rt, alloc, link.talk());
-    (status, sent)
-}
+// The helper of moments.
+struct Helper;
 
-// Whether a talk in pieces of this size ends so, and whether this is sent.
-fn is_served(
-    rt: &impl Abort,
-    alloc: Global,
-    talk: &[u8],
-    chunk: usize,
-    status: HelpStatus,
-    want: &[u8],
-) -> [bool; 2]
-    requires { 1 ≤ chunk }
-{
-    let (ended, sent) = served(rt, alloc, talk, chunk, &[]);
-    [ended == status, sent.as_slice() == want]
+impl Server for Helper {
+    type End = HelpStatus;
+
+    fn serve(alloc: Global, link: &mut MemoryLink) -> HelpStatus {
+        serve_moments(alloc, link)
+    }
 }
 
 // Each talk, in pieces of one byte and in one piece.
 fn are_served(rt: &impl Abort, alloc: Global, talks: &[Talk]) {
-    for (row, (parts, status, sent)) in talks.iter().enumerate() {
-        let talk = parts.concat(alloc).expect(rt, "memory");
-        let want = sent.concat(alloc).expect(rt, "memory");
-        expect(rt, row, &is_served(rt, alloc, &talk, 1, *status, &want));
-        expect(
-            rt,
-            row,
-            &is_served(rt, alloc, &talk, 10_000, *status, &want),
-        );
-    }
+    let unserved = first_unserved::<Helper>(alloc, talks).expect(rt, "memory");
+    assert_eq!(rt; unserved, None);
 }
 
 #[test]
@@ -272,8 +241,10 @@ fn the_17th_moment_is_out_of_turn(rt: HostRuntime) {
     talk.extend_from_slice(&ASK).expect(&rt, "memory");
     want.extend_from_slice(&OUT_OF_TURN).expect(&rt, "memory");
     let status = HelpStatus::BadFrame { offset: 88 };
-    expect(&rt, 1, &is_served(&rt, alloc, &talk, 1, status, &want));
-    expect(&rt, 2, &is_served(&rt, alloc, &talk, 10_000, status, &want));
+    for (row, chunk) in [1, 10_000].iter().enumerate() {
+        let facts = is_served::<Helper>(alloc, &talk, *chunk, status, &want);
+        expect(&rt, row, &facts.expect(&rt, "memory"));
+    }
 }
 
 // Six frames are received, two calls each where there is a body, and three are sent: 13 calls in
@@ -286,7 +257,7 @@ fn a_link_of_moments_fails_at_each_call(rt: HostRuntime) {
     let parts: [&[u8]; 3] = [&CLAIM, &FIRST, &SECOND];
     let replies = parts.concat(alloc).expect(&rt, "memory");
     for call in 1..15 {
-        let (status, sent) = served(&rt, alloc, &talk, 10_000, &[call]);
+        let (status, sent) = served::<Helper>(alloc, &talk, 10_000, &[call]).expect(&rt, "memory");
         let want = if call < 14 {
             HelpStatus::PeerFault
         } else {
@@ -326,7 +297,7 @@ fn is_asked(
     Ok([
         status == Status::Accepted,
         report.bytes() == b"moment:0:3 153\n".as_slice(),
-        sent_in(rt, alloc, peer.talk()).as_slice() == talk,
+        sent_in(alloc, peer.talk()).expect(rt, "memory").as_slice() == talk,
     ])
 }
 
@@ -336,7 +307,7 @@ fn both_ends_fit_together(rt: HostRuntime) -> Result<(), Fail> {
     let alloc = rt.alloc();
     let parts: [&[u8]; 4] = [&STREAM, &ASK, &AT_SEED, &END];
     let talk = parts.concat(alloc).expect(&rt, "memory");
-    let (ended, sent) = served(&rt, alloc, &talk, 10_000, &[]);
+    let (ended, sent) = served::<Helper>(alloc, &talk, 10_000, &[]).expect(&rt, "memory");
     expect(&rt, 0, &[ended == HelpStatus::Served]);
     expect(&rt, 1, &is_asked(&rt, alloc, sent, &talk)?);
     Ok(())

@@ -1,6 +1,6 @@
 // The talk of one moment, over replies that were worked out apart from the program.
-use crate::events::events;
 use crate::facts::expect;
+use sip_check_tests::events::events;
 use sip_field::{Field, M61, Seat};
 use sip_moments::{Moment, MomentAsking};
 use sip_ports::{MemoryLink, MemorySink};
@@ -152,7 +152,7 @@ fn check_row(rt: &impl Abort, alloc: Global, number: usize, row: &Row) -> Result
     let (said, link, keep) = asked_of(alloc, &incoming)?;
     let facts = [
         said == row.said,
-        link.talk() == events(rt, alloc, row.talk).as_slice(),
+        link.talk() == events(alloc, row.talk).expect(rt, "memory").as_slice(),
         keep.bytes() == row.kept.concat(alloc).expect(rt, "memory").as_slice(),
     ];
     expect(rt, number, &facts);

@@ -1,5 +1,5 @@
 -- Accepted replies are those that state a claim and polynomials that add up.
-use Rattle.std.proofs.Common.{◌≡◌, ℕ, ◌+◌, ◌-◌, ◌≤◌, Bool, true, false, ◌&&◌, ℤ, nat_abs, Option, Some, None, Result, Ok, Err, List, [], ◌∷◌, ◌++◌, length, map, drop, All, refl, sym, ap, subst, ◌∙◌, arith}
+use Rattle.std.proofs.Common.{◌≡◌, ℕ, ◌+◌, ◌-◌, ◌≤◌, Bool, true, false, ◌&&◌, ℤ, nat_abs, Option, Some, None, Result, Ok, Err, List, [], ◌∷◌, ◌++◌, length, map, drop, All, refl, sym, ap, ◌∙◌, arith}
 use Rattle.std.specs.Prelude.{◌==◌}
 use Rattle.std.proofs.lemmas.Bool.{and_from, eqb-true}
 use Rattle.std.proofs.lemmas.List.{append-nil}
@@ -12,29 +12,22 @@ use Rattle.sip_wire.specs.declared.message.Message.{Message}
 use Rattle.sip_wire.specs.declared.message.Message.TheVariants as messages
 use Rattle.sip_wire.specs.declared.message.Reason.{Reason}
 use Rattle.sip_wire.specs.declared.message.Reason.TheVariants as reasons
-use Rattle.sip_wire.specs.declared.message.WireFault.{WireFault}
 use Rattle.sip_wire.specs.declared.version.Version.{Version}
 use Rattle.sip_wire.specs.Decoding.{IsBytes, Spelled}
-use Rattle.sip_wire.specs.Reading.{read_frame}
 use Rattle.sip_wire.specs.Spelling.{spelling}
 use Rattle.sip_wire.specs.Table.{most_claim}
-use Rattle.sip_wire.proofs.Bytes.{IsBytes-drop}
 use Rattle.sip_wire.proofs.Longest.{claim_from_fits}
-use Rattle.sip_wire.proofs.ReadingLaws.{read_frame-rest}
-use Rattle.sip_wire.proofs.ReadsBack.{read_frame-message}
 use Rattle.sip_counts.specs.Rounds.{adds_up, is_expected, sum_of_ends, value_at}
-use Rattle.sip_replies.specs.declared.check.More.{More}
-use Rattle.sip_replies.specs.declared.check.More.TheVariants as mores
 use Rattle.sip_replies.specs.Protocols.{Rules}
-use Rattle.sip_replies.specs.Replies.{Fault, IsAccepted, frame_says, in_round, learnt, read_reply, run_from, step_says}
+use Rattle.sip_replies.specs.Replies.{Fault, IsAccepted, in_round, learnt, read_reply, run_from, step_says}
+use Rattle.sip_replies.proofs.FirstFrame.{first_frame}
 use Rattle.sip_replies.proofs.Passing.{at_end_parts, same_ok}
-use Rattle.sip_replies.proofs.Reading.{read_reply-frame}
 use Rattle.sip_sums.specs.Stating.{with_claim}
 use Rattle.sip_moments.specs.AcceptsMoment.{Stated}
 use Rattle.sip_moments.specs.Protocol.{MomentState, claimed, moment_asked, moment_protocol, moment_rules, moment_step}
 use Rattle.sip_moments.specs.Stating.{IsPolynomial, States, power_message}
 use Rattle.sip_moments.proofs.PowerFrames.{power_below}
-use Rattle.sip_moments.proofs.ReadMoments.{known}
+use Rattle.sip_moments.proofs.ReadMoments.{known, tested_step}
 
 -- ---- one reply
 
@@ -60,10 +53,6 @@ module _ (version : Version) (p k power : ℕ) where
     pub adds : is_expected p k expected c ≡ true
     pub then : known claim expected c ≡ t
 
-  abbrev step : Bool → Bool → MomentState → Result (More × MomentState) Reason
-  step long test s = needs long reasons.BadLength
-      >>= λ _. needs test reasons.Sum >>= λ _. Ok (mores.Complete, s)
-
   module _ (claim : ℤ) (expected : ℕ) (last bytes : List ℕ) (t : MomentState)
       (fine : IsBytes bytes) where
     abbrev s : MomentState
@@ -72,7 +61,7 @@ module _ (version : Version) (p k power : ℕ) where
     by_tests : (c : List ℕ) (rest : List ℕ) (long test : Bool) → (length c == k + 1) ≡ long
         → (sum_of_ends p c == expected) ≡ test
         → Spelled version (places.Power k) bytes (power_message c) rest
-        → step_says (read_reply R) rest (step long test (known claim expected c)) ≡ Ok t
+        → step_says (read_reply R) rest (tested_step long test (known claim expected c)) ≡ Ok t
         → IsPower claim expected bytes t
     by_tests c rest true true so is sp e =
         let parts = at_end_parts (known claim expected c) t rest e in
@@ -97,18 +86,10 @@ module _ (version : Version) (p k power : ℕ) where
         refl refl sp e
     by_message _ rest sp e = absurd cc
 
-    by_frame : (r : Result (Message × List ℕ) WireFault)
-        → read_frame version (places.Power k) bytes ≡ r
-        → frame_says R (read_reply R) s r ≡ Ok t → IsPower claim expected bytes t
-    by_frame (Err fault) is e = absurd cc
-    by_frame (Ok frame) is e =
-        by_message frame.0 frame.1
-        (read_frame-message version (places.Power k) bytes frame.0 frame.1 fine is) e
-
     power_back : read_reply R s bytes ≡ Ok t → IsPower claim expected bytes t
     power_back e =
-        by_frame (read_frame version (places.Power k) bytes) refl
-        (sym (read_reply-frame R s bytes) ∙ e)
+        let first = first_frame R s t bytes fine e in
+        by_message first.message first.rest first.spelled first.says
 
   -- reply 0 is a claim and one polynomial
   record IsFirst (bytes : List ℕ) (t : MomentState) : Type 0 where
@@ -131,20 +112,10 @@ module _ (version : Version) (p k power : ℕ) where
     }
     of_message _ rest fine_rest sp e = absurd cc
 
-    of_frame : (r : Result (Message × List ℕ) WireFault)
-        → read_frame version places.Claim bytes ≡ r
-        → frame_says R (read_reply R) R.start r ≡ Ok t → IsFirst bytes t
-    of_frame (Err fault) is e = absurd cc
-    of_frame (Ok frame) is e =
-        let rest = read_frame-rest version places.Claim bytes frame.0 frame.1 is in
-        of_message frame.0 frame.1
-        (subst (λ (l : List ℕ). IsBytes l) (sym rest.1) (IsBytes-drop _ bytes fine))
-        (read_frame-message version places.Claim bytes frame.0 frame.1 fine is) e
-
     first_back : read_reply R R.start bytes ≡ Ok t → IsFirst bytes t
     first_back e =
-        of_frame (read_frame version places.Claim bytes) refl
-        (sym (read_reply-frame R R.start bytes) ∙ e)
+        let first = first_frame R R.start t bytes fine e in
+        of_message first.message first.rest first.are_bytes first.spelled first.says
 
   -- ---- replies behind a claim
 

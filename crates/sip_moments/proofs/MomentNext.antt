@@ -16,7 +16,7 @@ use Rattle.sip_verifier.specs.Seats.{Seating}
 use Rattle.sip_verifier.specs.runs.Askers.{Asks, IsFirst, behind}
 use Rattle.sip_verifier.specs.runs.Asking.{IsInterrupted, IsRejected, IsUnrecorded, IsAnswered}
 use Rattle.sip_verifier.specs.runs.Manners.{Manner}
-use Rattle.sip_moments.specs.declared.asker.Given.{Given}
+use Rattle.sip_moments.specs.declared.asker.MomentGiven.{MomentGiven}
 use Rattle.sip_moments.specs.declared.moment.Moment.{Moment}
 use Rattle.sip_moments.specs.AcceptsMoment.{power_at}
 use Rattle.sip_moments.specs.Manner.{numbers_of}
@@ -63,9 +63,9 @@ module _ (m : Manner Moment ℤ) (ask : Moment × List ℕ) (moment : Moment) (b
   Came why = Asks m (moment, block) old new (λ (v z : ℤ). v ≡ z) (Err why)
 
   -- a number was given
-  pub given_next : (value : ℤ) (given : Given) → given.moment ≡ moment → given.value ≡ value
+  pub given_next : (value : ℤ) (given : MomentGiven) → given.moment ≡ moment → given.value ≡ value
       → Asks m (moment, block) old new (λ (v z : ℤ). v ≡ z) (Ok value)
-      → Asks m ask old new (λ (g : Given). States g ask.0) (Ok given)
+      → Asks m ask old new (λ (g : MomentGiven). States g ask.0) (Ok given)
   given_next value given moments values asks = record {
     answer = asks.answer;
     answered = subst
@@ -77,7 +77,7 @@ module _ (m : Manner Moment ℤ) (ask : Moment × List ℕ) (moment : Moment) (b
   }
 
   -- none was
-  pub none_next : (S : Given → ℤ → Type 0) (why : Unanswered) → Came why
+  pub none_next : (S : MomentGiven → ℤ → Type 0) (why : Unanswered) → Came why
       → Asks m ask old new S (Err why)
   none_next S (unanswered.Rejected round reason) r =
       subst (λ (a : Moment × List ℕ). IsRejected m a.0 a.1 old new round reason) same r

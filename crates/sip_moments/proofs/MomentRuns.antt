@@ -1,8 +1,7 @@
 -- All that a run of moments keeps, from its first three promises.
-use Rattle.std.proofs.Common.{◌≡◌, ◌≤◌, ◌<◌, ℕ, ◌*◌, Result, Ok, Err, Bool, true, false, Option, Some, None, List, [], ◌∷◌, map, All, refl, sym, ap, subst, ◌∙◌, arith}
+use Rattle.std.proofs.Common.{◌≡◌, ◌≤◌, ◌<◌, ℕ, ◌*◌, Bool, false, Option, Some, None, List, [], ◌∷◌, map, All, refl, sym, ap, subst, ◌∙◌}
 use Rattle.std.specs.Prelude.{◌||◌, nat_lt, if◌then◌else◌}
 use Rattle.std.specs.List.{list_any}
-use Rattle.std.proofs.lemmas.Bool.{or_left, or_right}
 use Rattle.std.proofs.lemmas.List.{length-map}
 use Rattle.std.proofs.lemmas.List.Elements.{All-cons, All-nil}
 use Rattle.std.proofs.lemmas.Slice.Zip.{firsts-zip, seconds-zip}
@@ -22,26 +21,25 @@ use Rattle.sip_verifier.specs.Draws.{challenges_of}
 use Rattle.sip_verifier.specs.Exchanges.{Exchange, Tells}
 use Rattle.sip_verifier.specs.Gathering.{HasSeed, IsGathered}
 use Rattle.sip_verifier.specs.Inquiries.{run_over}
-use Rattle.sip_verifier.specs.Snapshots.{Counts, IsTold, Snapshot, counts}
+use Rattle.sip_verifier.specs.Snapshots.{Counts, IsTold, Snapshot}
 use Rattle.sip_verifier.specs.Seats.{AreSeats, Seating}
 use Rattle.sip_verifier.specs.Statuses as statuses_of
-use Rattle.sip_verifier.specs.Statuses.{FaultClause, Stops, is_accepted, stops_asking, stops_gathering}
+use Rattle.sip_verifier.specs.Statuses.{FaultClause}
 use Rattle.sip_verifier.specs.Talks.{stream_sent}
 use Rattle.sip_verifier.specs.Tasks as tasks
 use Rattle.sip_verifier.specs.runs.Askers.{GoesBehind}
-use Rattle.sip_verifier.specs.runs.Concluding.{Ended, status_of}
+use Rattle.sip_verifier.specs.runs.Concluding.{Ended}
 use Rattle.sip_verifier.specs.runs.CountClause.{CountClause}
 use Rattle.sip_verifier.specs.runs.Promises.{Promises}
 use Rattle.sip_verifier.specs.runs.Runs.{IsLegalToEnd, Run, updates}
 use Rattle.sip_verifier.specs.runs.VerdictClause.{VerdictClause}
 use Rattle.sip_verifier.proofs.GatheredRuns.{is_drawn}
-use Rattle.sip_verifier.proofs.QueriesChecked.{since_before}
 use Rattle.sip_verifier.proofs.RunTalks.{Adds, said_is, written_is}
 use Rattle.sip_verifier.proofs.WrittenReports.{report_counts}
 use Rattle.sip_moments.specs.declared.moment.Moment.{Moment}
 use Rattle.sip_moments.specs.declared.task.MomentTask.{MomentTask}
 use Rattle.sip_moments.specs.Manner.{FewFor, asking, counting, first_high, honesty}
-use Rattle.sip_moments.specs.MomentClause.{IsListed, MomentClause, stops_high}
+use Rattle.sip_moments.specs.MomentClause.{IsListed, MomentClause}
 use Rattle.sip_moments.specs.Sittings.{Sitting, StandsFor, blocks_of, remaining_of, square_of}
 use Rattle.sip_moments.specs.Tasks.{CanBeDone, run_of, squares_of, version_of}
 use Rattle.sip_moments.proofs.CompleteMoments.{moments_complete}
@@ -221,31 +219,3 @@ they_stand task stream at_blocks seats are = record {
       (λ (n : ℕ). AreSeats n (map square_of task.moments.items) at_blocks stream seats)
       (sym are.levels) are;
 }
-
--- ---- the list of a part is in the list of a run
-
-pub gathering_listed : (status : Status) → stops_gathering status ≡ true → IsListed status
-gathering_listed status is =
-    or_left (is_accepted status || stops_gathering status || stops_high status)
-    (stops_asking status)
-    (or_left (is_accepted status || stops_gathering status) (stops_high status)
-    (or_right (is_accepted status) (stops_gathering status) is))
-
-asking_listed : (status : Status) → stops_asking status ≡ true → IsListed status
-asking_listed status is =
-    or_right (is_accepted status || stops_gathering status || stops_high status)
-    (stops_asking status) is
-
--- what came of the moments has its cause since an earlier moment of the link, and is listed
-pub asked_stops : (first firsts second seconds earlier peer peers report reports : ℕ)
-    (r : Result (Unit {0}) Status) → earlier ≤ peer
-    → Stops stops_asking (counts first second peer report 0) (counts firsts seconds peers reports 0) r
-    → FaultClause (counts first second earlier report 0) (counts firsts seconds peers reports 0)
-    (status_of r) × IsListed (status_of r)
-asked_stops first firsts second seconds earlier peer peers report reports (Ok u) later stops =
-    (tt, refl)
-asked_stops first firsts second seconds earlier peer peers report reports (Err status) later (is, fault) = (
-  since_before first firsts second seconds earlier peer peers report reports 0 0 0 status later
-      (omega arith) fault,
-  asking_listed status is,
-)

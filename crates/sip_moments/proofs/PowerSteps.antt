@@ -6,8 +6,8 @@ use Rattle.std.proofs.lemmas.Nat.{mul-mod, mul-mod_first, pow-add}
 use Rattle.std.proofs.lemmas.List.{drop_more}
 use Rattle.std.proofs.lemmas.List.Sums.{sum_by-cons}
 use Rattle.sip_counts.specs.Rounds.{sum_of_ends}
+use Rattle.sip_wire.specs.Table.{most_degree}
 use Rattle.sip_moments.specs.Honest.{binomial}
-use Rattle.sip_moments.specs.Moments.{most_degree}
 use Rattle.sip_moments.proofs.Binomials.{binomial-most}
 
 -- ---- powers

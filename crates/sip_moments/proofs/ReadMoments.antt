@@ -18,7 +18,7 @@ use Rattle.sip_replies.specs.Protocols.{Rules}
 use Rattle.sip_replies.specs.Replies.{step_says, frame_says, read_reply}
 use Rattle.sip_replies.proofs.Reading.{read_reply-frame}
 use Rattle.sip_replies.proofs.Passing.{at_end_is}
-use Rattle.sip_sums.proofs.ReadSums.{claim_in, frame_claim, message_claim}
+use Rattle.sip_sums.proofs.ReadSums.{behind, claim_in, frame_claim, message_claim}
 use Rattle.sip_moments.specs.Protocol.{MomentState, moment_step, moment_rules}
 
 -- a claim, what the next polynomial has to add up to, and the last one
@@ -39,10 +39,6 @@ frame_polynomial (Err _) = []
 pub polynomial_in : Version → ℕ → List ℕ → List ℕ
 polynomial_in version k bytes = frame_polynomial (read_frame version (places.Power k) bytes)
 
-behind : Result (Message × List ℕ) WireFault → List ℕ
-behind (Ok frame) = frame.1
-behind (Err _) = []
-
 -- the polynomial behind a claim
 pub first_polynomial_in : Version → ℕ → List ℕ → List ℕ
 first_polynomial_in version k bytes =
@@ -55,11 +51,12 @@ pub record Adds (p k : ℕ) (claim : ℤ) (expected : ℕ) (c : List ℕ) (t : M
   pub is : known claim expected c ≡ t
   pub adds : is_expected p k expected c ≡ true
 
-abbrev as_complete : ℤ → ℕ → List ℕ → Bool → Bool → Result (More × MomentState) Reason
-as_complete claim expected c long adds =
+-- what a polynomial says, by its two tests
+abbrev pub tested_step : Bool → Bool → MomentState → Result (More × MomentState) Reason
+tested_step long adds s =
     needs long reasons.BadLength
     >>= λ _. needs adds reasons.Sum
-    >>= λ _. Ok (mores.Complete, known claim expected c)
+    >>= λ _. Ok (mores.Complete, s)
 
 module _ (version : Version) (p k : ℕ) where
   abbrev R : Rules MomentState
@@ -71,7 +68,7 @@ module _ (version : Version) (p k : ℕ) where
   module _ (claim : ℤ) (expected : ℕ) (last : List ℕ) where
     by_tests : (next : Next) (rest : List ℕ) (c : List ℕ) (t : MomentState) (long adds : Bool)
         → eqb (length c) (k + 1) ≡ long → eqb (sum_of_ends p c) expected ≡ adds
-        → step_says next rest (as_complete claim expected c long adds) ≡ Ok t
+        → step_says next rest (tested_step long adds (known claim expected c)) ≡ Ok t
         → Adds p k claim expected c t
     by_tests next rest c t true true so is h = record {
       is = at_end_is (known claim expected c) t rest h;
@@ -87,27 +84,7 @@ module _ (version : Version) (p k : ℕ) where
     by_message next rest (messages.Power v) t h =
         by_tests next rest v.items t (eqb (length v.items) (k + 1))
         (eqb (sum_of_ends p v.items) expected) refl refl h
-    by_message next rest (messages.Claim v) t h = absurd (cc)
-    by_message next rest (messages.Poly a b c) t h = absurd (cc)
-    by_message next rest (messages.Refuse code) t h = absurd (cc)
-    by_message next rest (messages.Open number depth) t h = absurd (cc)
-    by_message next rest (messages.Updates us) t h = absurd (cc)
-    by_message next rest messages.EndStream t h = absurd (cc)
-    by_message next rest (messages.Query q) t h = absurd (cc)
-    by_message next rest (messages.Reveal r) t h = absurd (cc)
-    by_message next rest messages.Bye t h = absurd (cc)
-    by_message next rest (messages.Entries v) t h = absurd (cc)
-    by_message next rest (messages.Siblings left right) t h = absurd (cc)
-    by_message next rest (messages.Leaves v) t h = absurd (cc)
-    by_message next rest (messages.Nodes v) t h = absurd (cc)
-    by_message next rest messages.LevelEnd t h = absurd (cc)
-    by_message next rest (messages.AskLook code item) t h = absurd (cc)
-    by_message next rest (messages.Found flag index) t h = absurd (cc)
-    by_message next rest messages.End t h = absurd (cc)
-    by_message next rest (messages.AskMoment side degree) t h = absurd (cc)
-    by_message next rest (messages.Held held) t h = absurd (cc)
-    by_message next rest (messages.Recall count) t h = absurd (cc)
-    by_message next rest (messages.Marks v) t h = absurd (cc)
+    by_message next rest _ t h = absurd (cc)
 
     by_frame : (next : Next) (r : Result (Message × List ℕ) WireFault) (t : MomentState)
         → frame_says R next (known claim expected last) r ≡ Ok t
@@ -132,27 +109,7 @@ module _ (version : Version) (p k : ℕ) where
       → Adds p k (message_claim m) (residue p (message_claim m)) (polynomial_in version k rest) t
   unfolding message_claim
   first_message rest (messages.Claim v) t h = later_adds v (residue p v) [] rest t h
-  first_message rest (messages.Poly a b c) t h = absurd (cc)
-  first_message rest (messages.Refuse code) t h = absurd (cc)
-  first_message rest (messages.Open number depth) t h = absurd (cc)
-  first_message rest (messages.Updates us) t h = absurd (cc)
-  first_message rest messages.EndStream t h = absurd (cc)
-  first_message rest (messages.Query q) t h = absurd (cc)
-  first_message rest (messages.Reveal r) t h = absurd (cc)
-  first_message rest messages.Bye t h = absurd (cc)
-  first_message rest (messages.Entries v) t h = absurd (cc)
-  first_message rest (messages.Siblings left right) t h = absurd (cc)
-  first_message rest (messages.Leaves v) t h = absurd (cc)
-  first_message rest (messages.Nodes v) t h = absurd (cc)
-  first_message rest messages.LevelEnd t h = absurd (cc)
-  first_message rest (messages.AskLook code item) t h = absurd (cc)
-  first_message rest (messages.Found flag index) t h = absurd (cc)
-  first_message rest messages.End t h = absurd (cc)
-  first_message rest (messages.AskMoment side degree) t h = absurd (cc)
-  first_message rest (messages.Held held) t h = absurd (cc)
-  first_message rest (messages.Recall count) t h = absurd (cc)
-  first_message rest (messages.Marks v) t h = absurd (cc)
-  first_message rest (messages.Power v) t h = absurd (cc)
+  first_message rest _ t h = absurd (cc)
 
   first_frame : (r : Result (Message × List ℕ) WireFault) (t : MomentState)
       → frame_says R (read_reply R) R.start r ≡ Ok t

@@ -3,9 +3,7 @@
 use Rattle.std.proofs.Common.{◌≡◌, ℕ, ◌+◌, Bool, true, false, eqb, is_ok, Option, Some, None, Result, Ok, Err, List, [], ◌∷◌, length, drop, ℤ, refl, ap, sym, ◌∙◌, subst}
 use Rattle.std.proofs.lemmas.Bool.{and_parts, and_from}
 use Rattle.sip_field.specs.Residue.{residue}
-use Rattle.sip_vector.specs.Answers.{Answer, number}
-use Rattle.sip_vector.specs.Steps.{◌>>=◌, needs}
-use Rattle.sip_wire.specs.declared.message.Reason.TheVariants as reasons
+use Rattle.sip_vector.specs.Steps.{◌>>=◌}
 use Rattle.sip_wire.specs.declared.version.Version.{Version}
 use Rattle.sip_counts.specs.Rounds.{adds_up, is_expected, value_at}
 use Rattle.sip_counts.specs.Strategies.{Strategy, replies, all_there}
@@ -14,7 +12,7 @@ use Rattle.sip_replies.proofs.Passing.{run_is, run_none, run_parts, same_ok}
 use Rattle.sip_replies.specs.Protocols.{Rules}
 use Rattle.sip_replies.specs.Replies.{Fault, in_round, learnt, read_reply, run_from, run, verdict}
 use Rattle.sip_sums.proofs.ReadSums.{claim_in}
-use Rattle.sip_sums.proofs.SaidSums.{claim_said}
+use Rattle.sip_sums.proofs.SaidSums.{claim_said, tested}
 use Rattle.sip_moments.specs.AcceptsMoment.{power_at}
 use Rattle.sip_moments.specs.Counting.{claim_of, said, accepts_moment}
 use Rattle.sip_moments.specs.Protocol.{MomentState, moment_asked, moment_protocol, moment_rules, claimed}
@@ -171,10 +169,7 @@ pub record Accepted (version : Version) (p k power : ℕ) (r : List ℕ) (all : 
   pub ends : eqb s.expected power ≡ true
 
 module _ (version : Version) (p k power : ℕ) (r : List ℕ) (all : List (List ℕ)) where
-  abbrev tested : Bool → ℤ → Result Answer Fault
-  tested test claim = in_round (length r) (needs test reasons.Root >>= λ _. Ok (number claim))
-
-  root_passed : (s : MomentState) (claim : ℤ) (test : Bool) → run (moment_rules version p k) r all ≡ Ok s → s.claim ≡ Some claim → eqb s.expected power ≡ test → is_ok (tested test claim) ≡ true → Accepted version p k power r all
+  root_passed : (s : MomentState) (claim : ℤ) (test : Bool) → run (moment_rules version p k) r all ≡ Ok s → s.claim ≡ Some claim → eqb s.expected power ≡ test → is_ok (tested r test claim) ≡ true → Accepted version p k power r all
   root_passed s claim true is its root h = record { s = s; states = is; some = claim; claim = its; ends = root }
   root_passed s claim false is its root h = absurd (cc)
 

@@ -14,7 +14,7 @@ use Rattle.sip_wire.specs.declared.kind.Place.TheVariants as places
 use Rattle.sip_wire.specs.declared.message.Message.TheVariants as messages
 use Rattle.sip_wire.specs.declared.version.Version.{Version}
 use Rattle.sip_wire.specs.Spelling.{all_hold, fits, has_room, side_number}
-use Rattle.sip_wire.specs.Table.{allows}
+use Rattle.sip_wire.specs.Table.{allows, most_queries}
 use Rattle.sip_replies.proofs.Saying.{reveal_fits}
 use Rattle.sip_helper.specs.Rules.{AreTurnsBy, IsTurnBy, Turn, after_turn_by, state_after_by}
 use Rattle.sip_helper.specs.Shown.{weight_of}
@@ -25,7 +25,7 @@ use Rattle.sip_moments.specs.Manner.{CanBeCounted}
 use Rattle.sip_moments.specs.Moments.{is_too_high}
 use Rattle.sip_moments.specs.Questions.{ask_of}
 use Rattle.sip_moments.specs.Served.{CanBeServed, behind_stream, question_turns, reveals, turn}
-use Rattle.sip_moments.specs.Serving.{MomentHelper, OpenMoment, after_answer, is_allowed, may_ask, may_follow, moment_rules, most_moments, place_due, side_of, step}
+use Rattle.sip_moments.specs.Serving.{MomentHelper, OpenMoment, after_answer, is_allowed, may_ask, may_follow, moment_rules, place_due, side_of, step}
 use Rattle.sip_moments.proofs.AskFrames.{ask_fits}
 use Rattle.sip_moments.proofs.ServedReplies.{HasHeard, asked_due, due, has_heard, left_of, next_due, replied, reveals_keep}
 
@@ -56,10 +56,10 @@ module _ (version : Version) (depth : ℕ) (stream : List Update) where
   -- ---- an Ask
 
   may_be_asked : (s : MomentHelper) (m : Moment) → HasHeard version depth stream s.helper
-      → s.asked < most_moments → CanBeCounted stream m
+      → s.asked < most_queries → CanBeCounted stream m
       → may_ask s (side_number m.side) m.degree ≡ true
   may_be_asked s m has few can =
-      and_from _ _ (and_from _ _ (and_from _ _ (lt-ltb s.asked most_moments few)
+      and_from _ _ (and_from _ _ (and_from _ _ (lt-ltb s.asked most_queries few)
       (le-leb 3 m.degree can.degree.least)) (le-leb m.degree 8 can.degree.most))
       (ap (λ (o : Option Side). elim o as (λ _. Bool) [
         | Some at ↦ not (is_too_high (weight_of s.helper.weights at) m.degree)
@@ -69,7 +69,7 @@ module _ (version : Version) (depth : ℕ) (stream : List Update) where
       ∙ ap not can.low)
 
   ask_may : (s : MomentHelper) (m : Moment) → HasHeard version depth stream s.helper
-      → s.question ≡ None → s.asked < most_moments → CanBeCounted stream m
+      → s.question ≡ None → s.asked < most_queries → CanBeCounted stream m
       → IsTurnBy moment_rules s (turn (ask_of m))
   ask_may s m has none few can = record {
     message = record {
@@ -169,7 +169,7 @@ module _ (version : Version) (depth : ℕ) (stream : List Update) where
   }
 
   question_may : (s : MomentHelper) (m : Moment) (block : List ℕ)
-      → HasHeard version depth stream s.helper → s.question ≡ None → s.asked < most_moments
+      → HasHeard version depth stream s.helper → s.question ≡ None → s.asked < most_queries
       → 1 ≤ depth → CanBeServed depth stream (m, block)
       → AreTurnsBy moment_rules s (question_turns (m, block))
       × ((state_after_by moment_rules s (question_turns (m, block))).question ≡ None)
@@ -187,7 +187,7 @@ module _ (version : Version) (depth : ℕ) (stream : List Update) where
 
   questions_may : (s : MomentHelper) (asks : List (Moment × List ℕ))
       → HasHeard version depth stream s.helper → s.question ≡ None
-      → s.asked + length asks ≤ most_moments → 1 ≤ depth → All (CanBeServed depth stream) asks
+      → s.asked + length asks ≤ most_queries → 1 ≤ depth → All (CanBeServed depth stream) asks
       → AreTurnsBy moment_rules s (flat_map question_turns asks ++ turn messages.End ∷ [])
   questions_may s [] has none few some can = (end_may s has none, tt)
   questions_may s ((m, block) ∷ asks) has none few some can =
@@ -207,7 +207,7 @@ module _ (version : Version) (depth : ℕ) (stream : List Update) where
       (All-tail (CanBeServed depth stream) (m, block) asks can)))
 
 pub run_may : (number depth : ℕ) (pieces : List (List Update)) (asks : List (Moment × List ℕ))
-    → 1 ≤ depth → length asks ≤ most_moments
+    → 1 ≤ depth → length asks ≤ most_queries
     → All (CanBeServed depth (flat_map (λ us. us) pieces)) asks
     → AreTurnsBy moment_rules (behind_stream number depth pieces)
     (flat_map question_turns asks ++ turn messages.End ∷ [])

@@ -20,7 +20,6 @@ use Rattle.sip_wire.proofs.Longest.{claim_fits}
 use Rattle.sip_wire.proofs.ReadingLaws.{read_frame-spelling}
 use Rattle.sip_wire.proofs.SmallNumbers.{in_range}
 use Rattle.sip_counts.specs.Rounds.{adds_up, sum_of_ends, value_at}
-use Rattle.sip_replies.specs.declared.check.More.{More}
 use Rattle.sip_replies.specs.declared.check.More.TheVariants as mores
 use Rattle.sip_replies.specs.Protocols.{Rules}
 use Rattle.sip_replies.specs.Replies.{Fault, in_round, learnt, read_reply, run_from, step_says, verdict}
@@ -32,7 +31,7 @@ use Rattle.sip_moments.specs.Counting.{accepts_moment}
 use Rattle.sip_moments.specs.Protocol.{MomentState, claimed, moment_asked, moment_protocol, moment_rules}
 use Rattle.sip_moments.specs.Stating.{HasSpelling, IsPolynomial, power_message, stated_replies}
 use Rattle.sip_moments.proofs.PowerFrames.{power_spelled}
-use Rattle.sip_moments.proofs.ReadMoments.{known}
+use Rattle.sip_moments.proofs.ReadMoments.{known, tested_step}
 
 -- the reply of a polynomial alone
 abbrev pub power_reply : Version → List ℕ → List ℕ
@@ -47,13 +46,9 @@ module _ (version : Version) (p k power : ℕ) (low : k ≤ most_degree) where
   abbrev pub R : Rules MomentState
   R = moment_rules version p k
 
-  abbrev step : Bool → Bool → MomentState → Result (More × MomentState) Reason
-  step long test s = needs long reasons.BadLength
-      >>= λ _. needs test reasons.Sum >>= λ _. Ok (mores.Complete, s)
-
   ends_here : (f : MomentState → List ℕ → Result MomentState Reason) (long test : Bool)
       (s : MomentState) → long ≡ true
-      → step_says f [] (step long test s) ≡ (needs test reasons.Sum >>= λ _. Ok s)
+      → step_says f [] (tested_step long test s) ≡ (needs test reasons.Sum >>= λ _. Ok s)
   ends_here f true true s is = refl
   ends_here f true false s is = refl
   ends_here f false test s is = absurd (cc)
@@ -68,7 +63,7 @@ module _ (version : Version) (p k power : ℕ) (low : k ≤ most_degree) where
       let spelled = power_spelled version k c low h in
       ap (read_reply R s) (sym (append-nil bytes))
       ∙ read_reply-step R s (bytes ++ []) [] (power_message c)
-      (step (length c == k + 1) (sum_of_ends p c == expected) (known claim expected c))
+      (tested_step (length c == k + 1) (sum_of_ends p c == expected) (known claim expected c))
       (read_frame-spelling version (places.Power k) (power_message c) [] spelled.0 spelled.1 tt)
       refl
       ∙ ends_here (read_reply R) (length c == k + 1) (sum_of_ends p c == expected)

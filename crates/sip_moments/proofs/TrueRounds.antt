@@ -1,5 +1,5 @@
 -- The polynomials of the folded lists are the true rounds of a moment.
-use Rattle.std.proofs.Common.{◌≡◌, ℕ, suc, ◌+◌, ◌-◌, ◌%◌, ◌^◌, ◌<◌, List, [], ◌∷◌, length, map, fold, All, ℤ, ap, sym, ◌∙◌, arith}
+use Rattle.std.proofs.Common.{◌≡◌, ℕ, suc, ◌+◌, ◌-◌, ◌%◌, ◌^◌, ◌<◌, List, [], ◌∷◌, length, map, All, ℤ, ap, sym, ◌∙◌, arith}
 use Rattle.std.proofs.Math.Nat.{pow-succ'}
 use Rattle.std.proofs.lemmas.List.{length-map}
 use Rattle.std.proofs.lemmas.List.FromFn.{length-map-range_with_len}
@@ -9,12 +9,9 @@ use Rattle.sip_vector.specs.Extensions.{ext, line}
 use Rattle.sip_mle.proofs.Folding.{residues_below, fold_is_ext}
 use Rattle.sip_counts.specs.Rounds.{AreRounds}
 use Rattle.sip_sums.proofs.CubeLemma.{fold_level}
+use Rattle.sip_sums.proofs.DegreeTwo.{level}
 use Rattle.sip_moments.specs.AcceptsMoment.{power_at}
 use Rattle.sip_moments.proofs.LevelPowers.{coefficient, polynomial_of, powers, value_is, ends_are}
-
--- the list that challenges lead to
-abbrev pub level : ℕ → List ℤ → List ℕ → List ℕ
-level p numbers v = fold (line p) (map (residue p) numbers) v
 
 abbrev pub rounds : ℕ → ℕ → List ℤ → List ℕ → List ℕ
 rounds p k numbers v = polynomial_of p k (level p numbers v)

@@ -1,5 +1,6 @@
 -- What a moment's check of the general talk keeps.
-use Rattle.std.specs.Prelude.{◌≡◌, ℕ, ◌+◌, ◌%◌, ◌^◌, ◌==◌, ℤ, false, List, length, slice_index, Option, Result, if◌then◌else◌}
+use Rattle.std.specs.Prelude.{◌≡◌, ℕ, ◌+◌, ◌%◌, ◌^◌, ◌==◌, ℤ, false, List, length, slice_index}
+use Rattle.std.specs.Prelude.{Option, Result, if◌then◌else◌}
 use Rattle.sip_field.specs.Moduli.{m61_modulus}
 use Rattle.sip_vector.specs.declared.update.Entry.{Entry}
 use Rattle.sip_vector.specs.Steps.{◌>>=◌, needs}
@@ -10,7 +11,8 @@ use Rattle.sip_replies.specs.Protocols.{Phase}
 use Rattle.sip_moments.specs.Checking.{Kept}
 use Rattle.sip_moments.specs.Protocol.{MomentAsked, MomentState}
 
--- the check of the rounds, the claim once it came, and the extension of the vector at the challenges
+-- the check of the rounds, the claim once it came, and the extension of the vector at the
+-- challenges
 pub record Asking : Type 0 where
   pub check : Kept
   pub claim : Option ℤ

@@ -1,5 +1,6 @@
 -- What an honest helper knows and says of a moment.
-use Rattle.std.specs.Prelude.{ℕ, zero, suc, ◌+◌, ◌-◌, ◌*◌, ◌%◌, ◌^◌, ℤ, List, [], ◌∷◌, ◌++◌, length, take, map, flat_map, fold}
+use Rattle.std.specs.Prelude.{ℕ, zero, suc, ◌+◌, ◌-◌, ◌*◌, ◌%◌, ◌^◌, ℤ, List, [], ◌∷◌, ◌++◌, length}
+use Rattle.std.specs.Prelude.{take, map, flat_map, fold}
 use Rattle.std.specs.List.{range_with_len}
 use Rattle.sip_field.specs.Residue.{residue, difference_mod}
 use Rattle.sip_vector.specs.Extensions.{line}

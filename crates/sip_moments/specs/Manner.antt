@@ -1,6 +1,7 @@
 -- How moments are asked and judged in a run, what is promised of a helper that lies, and what an
 -- honest one does.
-use Rattle.std.specs.Prelude.{◌≡◌, ◌≤◌, ℕ, ◌*◌, ◌-◌, ◌^◌, Bool, false, ℤ, List, [], ◌∷◌, ◌++◌, codes, map, flat_map, Option, Some, None}
+use Rattle.std.specs.Prelude.{◌≡◌, ◌≤◌, ℕ, ◌*◌, ◌-◌, ◌^◌, Bool, false, ℤ, List, [], ◌∷◌, ◌++◌}
+use Rattle.std.specs.Prelude.{codes, map, flat_map, Option, Some, None}
 use Rattle.std.specs.Fmt.{signed_decimal}
 use Rattle.sip_field.specs.Moduli.{m61_modulus}
 use Rattle.sip_vector.specs.Answers.{number}
@@ -45,10 +46,13 @@ abbrev pub protocol_of : Version → ℕ → List Update → Question Moment →
 protocol_of version depth stream q = moment_protocol (moment_asked version m61_modulus
     q.query.degree (power_at m61_modulus q.query.degree (numbers_of depth stream q.query) q.block))
 
+-- the word that asks a moment, with which its line begins
+abbrev pub moment_word : Moment → List ℕ
+moment_word m = codes "moment" ++ side_parameter m.side ++ parameter m.degree
+
 -- the line of an accepted moment: its word, a space, the number, a line feed
 abbrev pub line : Moment → ℤ → List ℕ
-line m z = codes "moment" ++ side_parameter m.side ++ parameter m.degree ++ codes " "
-    ++ signed_decimal z ++ 10 ∷ []
+line m z = moment_word m ++ codes " " ++ signed_decimal z ++ 10 ∷ []
 
 -- a claim may have no room for the moment, by the weight of its side
 abbrev pub is_high : List Update → Moment → Bool

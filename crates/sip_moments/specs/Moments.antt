@@ -2,18 +2,16 @@
 use Rattle.std.specs.Prelude.{ℕ, ◌^◌, ◌≤◌, Bool, nat_lt, ℤ, List, map}
 use Rattle.std.specs.Int.{int_pow}
 use Rattle.sip_vector.specs.Streams.{int_sum}
-use Rattle.sip_wire.specs.Table.{most_claim}
+use Rattle.sip_wire.specs.Table.{most_claim, most_degree}
 
 -- the k-th moment: the sum of the k-th powers of the numbers
 abbrev pub moment : ℕ → List ℤ → ℤ
 moment k numbers = int_sum (map (λ a. int_pow a k) numbers)
 
--- the degrees of the moments that are asked for; the second moment is a sum of products
+-- the least degree of a moment that is asked for, since the second moment is a sum of products; the
+-- greatest is the wire's
 abbrev pub least_degree : ℕ
 least_degree = 3
-
-abbrev pub most_degree : ℕ
-most_degree = 8
 
 pub record IsDegree (k : ℕ) : Type 0 where
   pub least : least_degree ≤ k

@@ -1,7 +1,8 @@
 -- The replies to a question for a moment as a protocol of the general talk.
 --
 -- Reply 0 is a Claim frame and a Power frame; each later reply is one Power frame.
-use Rattle.std.specs.Prelude.{ℕ, ◌+◌, ◌==◌, ℤ, List, [], length, Option, Some, None, is_none, Result, Ok, Err, if◌then◌else◌}
+use Rattle.std.specs.Prelude.{ℕ, ◌+◌, ◌==◌, ℤ, List, [], length, Option, Some, None, is_none}
+use Rattle.std.specs.Prelude.{Result, Ok, Err, if◌then◌else◌}
 use Rattle.sip_field.specs.Residue.{residue}
 use Rattle.sip_vector.specs.Answers.{Answer, number}
 use Rattle.sip_vector.specs.Steps.{◌>>=◌, needs}

@@ -4,7 +4,9 @@
 -- ends. To a moment it gives the claim and the first round polynomial, and then behind each
 -- challenge the next polynomial, until the last is given. Where memory was refused, while the
 -- stream was heard or at the question, it refuses, and the next may be asked.
-use Rattle.std.specs.Prelude.{ℕ, ◌+◌, Bool, true, false, not, ◌&&◌, ◌||◌, ◌==◌, nat_le, nat_lt, is_none, is_some, List, [], ◌∷◌, ◌++◌, length, Option, Some, None, if◌then◌else◌}
+use Rattle.std.specs.Prelude.{ℕ, ◌+◌, Bool, true, false, not, ◌&&◌, ◌||◌, ◌==◌, nat_le, nat_lt}
+use Rattle.std.specs.Prelude.{is_none, is_some, List, [], ◌∷◌, ◌++◌, length, Option, Some, None}
+use Rattle.std.specs.Prelude.{if◌then◌else◌}
 use Rattle.std.specs.List.{flat_map}
 use Rattle.std.specs.Option.{option_map}
 use Rattle.sip_field.specs.Moduli.{m61_modulus}
@@ -19,18 +21,15 @@ use Rattle.sip_wire.specs.declared.message.Message.TheVariants as messages
 use Rattle.sip_wire.specs.Spelling.{spelling}
 use Rattle.sip_helper.specs.declared.status.HelpStatus.{HelpStatus}
 use Rattle.sip_helper.specs.KindRows.{refusal, want_of_memory}
-use Rattle.sip_helper.specs.Rules.{Rules, ServesBy}
+use Rattle.sip_helper.specs.Rules.{TurnRules, ServesBy}
 use Rattle.sip_helper.specs.Shown.{shown_vector, weight_of}
 use Rattle.sip_helper.specs.Turns.{HelperState, fresh, may_hear, whole_of}
 use Rattle.sip_helper.specs.Turns as turns
-use Rattle.sip_moments.specs.Moments.{is_too_high, least_degree, most_degree}
+use Rattle.sip_wire.specs.Table.{most_degree, most_queries}
+use Rattle.sip_moments.specs.Moments.{is_too_high, least_degree}
 use Rattle.sip_moments.specs.Honest.{honest_messages}
 
 -- ---- the state
-
--- the most moments of a talk
-abbrev pub most_moments : ℕ
-most_moments = 16
 
 -- a moment that is open: its side and its degree, the challenges that were revealed behind it,
 -- whether its last reply was given or is owed, and whether memory was refused for it
@@ -65,7 +64,7 @@ side_of number =
 -- whatever the numbers are, and few were asked before it
 abbrev pub may_ask : MomentHelper → ℕ → ℕ → Bool
 may_ask s side degree =
-    nat_lt s.asked most_moments && nat_le least_degree degree && nat_le degree most_degree
+    nat_lt s.asked most_queries && nat_le least_degree degree && nat_le degree most_degree
     && elim (side_of side) [
       | Some at ↦ not (is_too_high (weight_of s.helper.weights at) degree)
       | None ↦ false
@@ -164,7 +163,7 @@ after_answer s = record s {
 
 -- ---- on a link
 
-abbrev pub moment_rules : Rules MomentHelper
+abbrev pub moment_rules : TurnRules MomentHelper
 moment_rules = record {
   version = λ s. s.helper.version;
   place = place_due;

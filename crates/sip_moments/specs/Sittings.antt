@@ -2,7 +2,6 @@
 use Rattle.std.specs.Prelude.{◌≡◌, ℕ, Bool, ℤ, pos, List, drop, map, Result, Ok, Err}
 use Rattle.std.specs.List.{zip}
 use Rattle.sip_replies.specs.declared.asking.AskStop.{AskStop}
-use Rattle.sip_replies.specs.declared.asking.AskStop.TheVariants as stops
 use Rattle.sip_replies.specs.declared.check.Said.{Said}
 use Rattle.sip_replies.specs.declared.check.Said.TheVariants as saids
 use Rattle.sip_vector.specs.declared.query.Query.{Query}
@@ -10,11 +9,9 @@ use Rattle.sip_vector.specs.declared.query.Query.TheVariants.{F2}
 use Rattle.sip_vector.specs.declared.update.Update.{Update}
 use Rattle.sip_wire.specs.declared.version.Version.{Version}
 use Rattle.sip_verifier.specs.declared.asker.Unanswered.{Unanswered}
-use Rattle.sip_verifier.specs.declared.asker.Unanswered.TheVariants as unanswered
-use Rattle.sip_verifier.specs.declared.session.SessionFault.TheVariants as faults
 use Rattle.sip_verifier.specs.Seats.{AreSeats, Seating}
-use Rattle.sip_verifier.specs.runs.Askers.{Remaining}
-use Rattle.sip_moments.specs.declared.asker.Given.{Given}
+use Rattle.sip_verifier.specs.runs.Askers.{Remaining, unanswered_by}
+use Rattle.sip_moments.specs.declared.asker.MomentGiven.{MomentGiven}
 use Rattle.sip_moments.specs.declared.moment.Moment.{Moment}
 
 -- The version of the talk, the moments of the run, the seats that keep the extension of each one's
@@ -50,7 +47,7 @@ pub record StandsFor (stream : List Update) (s : Sitting) : Type 0 where
   pub stand : AreSeats s.seats.depth (map square_of s.moments) at_blocks stream s.seats
 
 -- what was given states this number for this moment
-pub record States (given : Given) (m : Moment) (z : ℤ) : Type 0 where
+pub record States (given : MomentGiven) (m : Moment) (z : ℤ) : Type 0 where
   pub asked : given.moment ≡ m
   pub same : given.value ≡ z
 
@@ -58,8 +55,4 @@ pub record States (given : Given) (m : Moment) (z : ℤ) : Type 0 where
 abbrev pub verdict_of : Result Said AskStop → Result ℤ Unanswered
 verdict_of (Ok (saids.Number value)) = Ok value
 verdict_of (Ok (saids.Pairs found)) = Ok (pos 0)
-verdict_of (Err (stops.Rejected round reason)) = Err (unanswered.Rejected round reason)
-verdict_of (Err stops.PeerFault) = Err (unanswered.Fault faults.PeerFault)
-verdict_of (Err stops.KeepFault) = Err (unanswered.Fault faults.KeepFault)
-verdict_of (Err stops.OutOfMemory) = Err (unanswered.Fault faults.OutOfMemory)
-verdict_of (Err stops.KeepOutOfMemory) = Err (unanswered.Fault faults.OutOfMemory)
+verdict_of (Err stop) = Err (unanswered_by stop)

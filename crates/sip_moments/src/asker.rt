@@ -1,18 +1,19 @@
 //! The moments of a run, asked one after another.
 
-ghost use Rattle.std.specs.Prelude.{◌≡◌, ◌≢◌, ◌⊎◌, ◌%◌, ◌^◌, ◌≤◌, ℕ, List, map, length, All, Ok, Err};
+ghost use Rattle.std.specs.Prelude.{◌≡◌, ◌≢◌, ◌⊎◌, ◌%◌, ◌^◌, ◌≤◌, ℕ, List, map, length, All, Ok};
+ghost use Rattle.std.specs.Prelude.{Err};
 ghost use Rattle.sip_field.specs.Elements.{m61_number};
 ghost use Rattle.sip_field.specs.Moduli.{m61_modulus};
 ghost use Rattle.sip_ports.specs.Ports.{Lasts, Rose};
 ghost use Rattle.sip_vector.specs.declared.update.Update.{Update as AnyUpdate};
-ghost use Rattle.sip_verifier.specs.runs.Askers.{Asks, KeepsAsked, has_failed};
+ghost use Rattle.sip_verifier.specs.runs.Askers.{Asks, KeepsAsked};
 ghost use Rattle.sip_moments.specs.AcceptsMoment.{power_at};
 ghost use Rattle.sip_moments.specs.Manner.{asking, line, numbers_of};
 ghost use Rattle.sip_moments.specs.Moments.{IsDegree};
 ghost use Rattle.sip_moments.specs.Sittings.{square_of, verdict_of};
 
-use crate::asking::MomentAsking;
 use crate::moment::Moment;
+use crate::moment_asking::MomentAsking;
 use arrayvec::ArrayVec;
 use itoa::Buffer;
 use sip_field::{M61, Seat};
@@ -20,7 +21,7 @@ use sip_ports::{Link, PortStop, Sink, write_whole};
 use sip_replies::{AskStop, Said, ask};
 use sip_stream::text::{put, put_number};
 use sip_vector::{CAP, Side};
-use sip_verifier::{Asker, Seats, SessionFault, Unanswered};
+use sip_verifier::{Asker, Seats, SessionFault, Unanswered, has_failed};
 use sip_wire::{Frame, MOST_QUERIES, Message, Version, encode};
 use std::marker::Model;
 
@@ -30,7 +31,7 @@ const ROOM: usize = 64;
 
 /// A moment that was stated and accepted.
 #[derive(Clone, Copy, Debug)]
-pub struct Given {
+pub struct MomentGiven {
     /// The moment that was asked.
     pub(crate) moment: Moment,
     /// The number that was stated.
@@ -99,7 +100,7 @@ impl Questions {
 }
 
 // The line of an accepted moment.
-fn line_of(given: &Given) -> ArrayVec<u8, ROOM>
+fn line_of(given: &MomentGiven) -> ArrayVec<u8, ROOM>
     ensures { result.items ≡ line given.now.moment given.now.value }
 {
     let mut digits = Buffer::new();
@@ -124,22 +125,7 @@ fn verdict_of(asked: Result<Said, AskStop>) -> Result<i64, Unanswered>
     match asked {
         Ok(Said::Number(value)) => Ok(value),
         Ok(Said::Pairs(_)) => unreachable!(),
-        Err(AskStop::Rejected { round, reason }) => Err(Unanswered::Rejected { round, reason }),
-        Err(AskStop::PeerFault) => Err(Unanswered::Fault(SessionFault::PeerFault)),
-        Err(AskStop::KeepFault) => Err(Unanswered::Fault(SessionFault::KeepFault)),
-        Err(AskStop::OutOfMemory | AskStop::KeepOutOfMemory) => {
-            Err(Unanswered::Fault(SessionFault::OutOfMemory))
-        }
-    }
-}
-
-// Whether a call of a port failed: a rejection is a verdict.
-fn has_failed(asked: &Result<i64, Unanswered>) -> bool
-    ensures { result ≡ has_failed asked.now }
-{
-    match asked {
-        Err(Unanswered::Fault(_)) => true,
-        _ => false,
+        Err(stop) => Err(Unanswered::from(stop)),
     }
 }
 
@@ -184,7 +170,7 @@ impl Asker for Questions {
     ghost use Rattle.sip_moments.specs.Manner.{asking as asking_moments};
     ghost use Rattle.sip_moments.specs.Sittings.{StandsFor, States, remaining_of};
 
-    type Given = Given;
+    type Given = MomentGiven;
 
     ghost Query = { AnyMoment };
 
@@ -208,7 +194,7 @@ impl Asker for Questions {
         &mut self,
         link: &mut L,
         keep: &mut C,
-    ) -> Result<Given, Unanswered> {
+    ) -> Result<MomentGiven, Unanswered> {
         let moment = self.moments[self.asked];
         let Some(point) = self.seats.point(self.asked) else {
             unreachable!()
@@ -230,10 +216,10 @@ impl Asker for Questions {
             Ok(value) => value,
             Err(why) => return Err(why),
         };
-        Ok(Given { moment, value })
+        Ok(MomentGiven { moment, value })
     }
 
-    fn write_line<K: Sink>(&self, given: &Given, report: &mut K) -> Result<(), PortStop> {
+    fn write_line<K: Sink>(&self, given: &MomentGiven, report: &mut K) -> Result<(), PortStop> {
         write_whole(report, line_of(given).as_slice())
     }
 

@@ -1,5 +1,6 @@
 //! The verifier's check of a claimed moment, round by round.
-ghost use Rattle.std.specs.Prelude.{◌≡◌, ◌+◌, ◌-◌, ◌%◌, ◌^◌, ◌<◌, ◌≤◌, ◌==◌, false, nat_abs, length, map, slice_index, is_err, OnOk};
+ghost use Rattle.std.specs.Prelude.{◌≡◌, ◌+◌, ◌-◌, ◌%◌, ◌^◌, ◌<◌, ◌≤◌, ◌==◌, false, nat_abs};
+ghost use Rattle.std.specs.Prelude.{length, map, slice_index, is_err, OnOk};
 ghost use Rattle.sip_field.specs.Residue.{residue};
 ghost use Rattle.sip_vector.specs.Steps.{needs};
 ghost use Rattle.sip_counts.specs.Rounds.{sum_of_ends};
@@ -8,6 +9,7 @@ ghost use Rattle.sip_moments.specs.Moments.{IsDegree};
 
 use crate::powers::{power, sum_of_ends};
 use sip_field::{Field, Seat, horner};
+use sip_sums::{copy_of, is_same};
 use sip_wire::Reason;
 use std::marker::Model;
 
@@ -169,18 +171,4 @@ impl<F: Field, const CAP: usize> MomentCheck<F, CAP> {
     {
         self.spent
     }
-}
-
-// Whether two values are the same residue.
-fn is_same<F: Field>(x: F, y: F) -> bool
-    ensures { result ≡ (F.number x == F.number y) }
-{
-    x.number() == y.number()
-}
-
-// The same challenges, once more.
-fn copy_of<F: Field, const CAP: usize>(seat: &Seat<F, CAP>) -> Seat<F, CAP>
-    ensures { result ≡ seat.now }
-{
-    seat.clone().unwrap()
 }

@@ -2,7 +2,8 @@
 //! that holds.
 #![tactic(auto, unfolding(sip_counts::specs::Rounds::adds_up, sip_counts::specs::Counts::sum_below, sip_counts::specs::Counts::count_below, sip_counts::specs::Counts::counted_from, sip_counts::specs::Counts::counted))]
 
-ghost use Rattle.std.specs.Prelude.{◌≡◌, ◌≢◌, ℕ, ◌*◌, ◌-◌, ◌/◌, ◌^◌, ◌≤◌, ℤ, pos, nat_abs, sum_by, List, [], ◌∷◌, length};
+ghost use Rattle.std.specs.Prelude.{◌≡◌, ◌≢◌, ℕ, ◌*◌, ◌-◌, ◌/◌, ◌^◌, ◌≤◌, ℤ, pos, nat_abs, sum_by};
+ghost use Rattle.std.specs.Prelude.{List, [], ◌∷◌, length};
 ghost use Rattle.sip_field.specs.Moduli.{m61_modulus};
 ghost use Rattle.sip_field.specs.Prime.{IsPrime};
 ghost use Rattle.sip_counts.specs.Counts.{counted};

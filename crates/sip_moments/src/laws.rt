@@ -1,7 +1,8 @@
 //! Laws of the check of a moment. These functions do nothing: each contract is a fact that holds.
 #![tactic(auto, unfolding(sip_counts::specs::Rounds::adds_up))]
 
-ghost use Rattle.std.specs.Prelude.{◌≡◌, ℕ, ◌+◌, ◌<◌, ◌≤◌, ◌==◌, ◌&&◌, ◌^◌, true, false, pos, ℤ, List, [], ◌∷◌, length, slice_index, filter, All};
+ghost use Rattle.std.specs.Prelude.{◌≡◌, ℕ, ◌+◌, ◌<◌, ◌≤◌, ◌==◌, ◌&&◌, ◌^◌, true, false, pos, ℤ};
+ghost use Rattle.std.specs.Prelude.{List, [], ◌∷◌, length, slice_index, filter, All};
 ghost use Rattle.std.specs.List.{range_with_len};
 ghost use Rattle.sip_field.specs.Moduli.{m61_modulus};
 ghost use Rattle.sip_field.specs.Residue.{residue};
@@ -12,12 +13,15 @@ ghost use Rattle.sip_vector.specs.Answers.{Answer};
 ghost use Rattle.sip_wire.specs.Decoding.{IsBytes};
 ghost use Rattle.sip_wire.specs.declared.version.Version.{Version};
 ghost use Rattle.sip_replies.specs.Replies.{IsAccepted};
+ghost use Rattle.sip_wire.specs.Table.{most_degree};
 ghost use Rattle.sip_moments.specs.AcceptsMoment.{Stated, accepts_stated, power_at};
-ghost use Rattle.sip_moments.specs.Checking.{Kept, adds_up_from, begun as started, with_polynomial, with_revealed};
+ghost use Rattle.sip_moments.specs.Checking.{Kept, adds_up_from, begun as started, with_polynomial};
+ghost use Rattle.sip_moments.specs.Checking.{with_revealed};
 ghost use Rattle.sip_moments.specs.Counting.{accepts_moment};
-ghost use Rattle.sip_moments.specs.Examples.{first_round, one_and_none, second_round, stated_cubes, stated_two};
+ghost use Rattle.sip_moments.specs.Examples.{first_round, one_and_none, second_round, stated_cubes};
+ghost use Rattle.sip_moments.specs.Examples.{stated_two};
 ghost use Rattle.sip_moments.specs.Honest.{begun, its_polynomial, learnt, round_polynomial};
-ghost use Rattle.sip_moments.specs.Moments.{is_too_high, moment, most_degree};
+ghost use Rattle.sip_moments.specs.Moments.{is_too_high, moment};
 ghost use Rattle.sip_moments.specs.Protocol.{moment_asked, moment_protocol};
 ghost use Rattle.sip_moments.specs.Stating.{HasSpelling, States, stated_replies};
 
@@ -81,8 +85,8 @@ pub fn calls_are_steps_of_the_definition()
         → adds_up_from p last check [] ≡ (check.expected == last) }
 {}
 
-/// Accepted replies are the bytes of a claim and a polynomial for each challenge, which add up to the
-/// power, and the claim is the answer.
+/// Accepted replies are the bytes of a claim and a polynomial for each challenge, which add up to
+/// the power, and the claim is the answer.
 pub fn accepted_replies_state_moments()
     ensures { (version : Version) (p k power : ℕ) (challenges : List ℕ) (replies : List (List ℕ))
         (answer : Answer) → All IsBytes replies

@@ -27,14 +27,15 @@
 //!   k·d·p^(d-1) of the p^d challenge vectors make the check accept a wrong moment ([`counting`]).
 //!   The same holds of replies as bytes, for every strategy: they are accepted exactly where the
 //!   claim and the polynomials that they state are ([`laws`]).
-//! - `moment_stream` keeps the promises of a run in the manner of moments (`MomentClause`): which lines
-//!   are written and when, the order of the bytes, the cause of each status, how many challenges a
-//!   helper can win by, and that an honest one is accepted with the stream's own moments. It asks
-//!   nothing where a claim may have no room for a moment, and names the first such one.
-//! - `serve_moments` takes turns, each of them a message that may come and then its reply: the honest
-//!   one, or a refusal where memory was refused. Its status says where it stopped (`ServesMoments`).
-//!   Over a run that keeps to the turns each message may come, and what goes out are the bytes of
-//!   honest replies that `moment_stream` accepts ([`served_laws`]).
+//! - `moment_stream` keeps the promises of a run in the manner of moments (`MomentClause`): which
+//!   lines are written and when, the order of the bytes, the cause of each status, how many
+//!   challenges a helper can win by, and that an honest one is accepted with the stream's own
+//!   moments. It asks nothing where a claim may have no room for a moment, and names the first such
+//!   one.
+//! - `serve_moments` takes turns, each of them a message that may come and then its reply: the
+//!   honest one, or a refusal where memory was refused. Its status says where it stopped
+//!   (`ServesMoments`). Over a run that keeps to the turns each message may come, and what goes out
+//!   are the bytes of honest replies that `moment_stream` accepts ([`served_laws`]).
 //!
 //! # The definitions to read
 //!
@@ -47,14 +48,14 @@
 //! | `Questions` | the message that asks for a moment |
 //! | `Counting` | which replies are accepted and which are right, for a count over bytes |
 //! | `Tasks` | which moments can be asked of a stream, and in which run |
-//! | `Manner` | how moments are asked and judged in a run, the count of each, and the honest helper |
+//! | `Manner` | how moments are asked and judged, the count of each, and the honest helper |
 //! | `MomentClause` | what a run keeps that asks for moments |
 //! | `Honest` | the true round polynomials, and what a prover keeps |
 //! | `Serving` | the turns of a helper of moments, and what it does on a link |
 //! | `Served` | what such a helper hears in a run that keeps to the turns |
 //!
-//! `Powers` and `Sittings` serve the contracts of private functions alone, and `Asking` those of the
-//! check in the talk.
+//! `Powers` and `Sittings` serve the contracts of private functions alone, and `Asking` those of
+//! the check in the talk.
 //!
 //! # Cost
 //!
@@ -69,13 +70,13 @@
 //! | `MomentCheck::finish` | k |
 //!
 //! A prover keeps 16 bytes for each entry of its vector that is not 0, and 8 for each coefficient
-//! of a polynomial. It takes them at its start, in a time that is linear in these entries. A pair is
-//! two neighbours of a list that are not both 0:
+//! of a polynomial. It takes them at its start, in a time that is linear in these entries. A pair
+//! is two neighbours of a list that are not both 0:
 //!
 //! | Call | `times` |
 //! |---|---|
 //! | `MomentProver::start` at degree k | at most 3(k - 1) for each pair, and k + 1 |
-//! | `MomentProver::learn` at degree k | 1 for each pair, at most 3(k - 1) for each of the folded list, and 2(k + 1) |
+//! | `MomentProver::learn` at degree k | 1 for each pair, 3(k - 1) for each behind it, 2(k + 1) |
 //! | `MomentProver::polynomial`, `MomentProver::coefficient` | 0 |
 //! | `MomentProver::claim`, `MomentProver::degree`, `MomentProver::rounds_left` | 0 |
 //!
@@ -83,12 +84,12 @@
 #![tactic(auto)]
 
 mod asker;
-mod asking;
 mod check;
 mod claims;
 pub mod counting;
 pub mod laws;
 mod moment;
+mod moment_asking;
 mod powers;
 mod prover;
 pub mod proving;
@@ -101,10 +102,10 @@ mod serving;
 mod stream;
 mod task;
 
-pub use asker::Given;
-pub use asking::MomentAsking;
+pub use asker::MomentGiven;
 pub use check::MomentCheck;
-pub use moment::Moment;
+pub use moment::{LEAST_DEGREE, Moment};
+pub use moment_asking::MomentAsking;
 pub use prover::MomentProver;
 pub use serving::serve_moments;
 pub use stream::moment_stream;

@@ -7,6 +7,9 @@ use sip_replies::Request;
 use sip_vector::Side;
 use sip_wire::{Message, Version, encode};
 
+/// The least degree of a moment that can be asked. The greatest one is `sip_wire::MOST_DEGREE`.
+pub const LEAST_DEGREE: u8 = 3;
+
 /// The moment of a side: the sum of the powers of its numbers, of a degree from 3 to 8.
 #[derive(Clone, Copy, Debug, PartialEq, Eq, Default)]
 pub struct Moment {

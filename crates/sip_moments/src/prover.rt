@@ -1,10 +1,12 @@
 //! The honest side of a check: the moment, and the round polynomials.
-ghost use Rattle.std.specs.Prelude.{◌≡◌, ◌+◌, ◌*◌, ◌%◌, ◌^◌, ◌<◌, ◌≤◌, ◌↔◌, nat_abs, length, map, sum_by, IfOk};
+ghost use Rattle.std.specs.Prelude.{◌≡◌, ◌+◌, ◌*◌, ◌%◌, ◌^◌, ◌<◌, ◌≤◌, ◌↔◌, nat_abs, length, map};
+ghost use Rattle.std.specs.Prelude.{sum_by, IfOk};
 ghost use Rattle.std.specs.List.{range_with_len};
 ghost use Rattle.sip_vector.specs.Limits.{most_depth};
 ghost use Rattle.sip_sums.specs.Honest.{over_pairs};
 ghost use Rattle.sip_wire.specs.Table.{most_claim};
-ghost use Rattle.sip_moments.specs.Honest.{begun, its_coefficient, its_polynomial, learnt, of_first};
+ghost use Rattle.sip_moments.specs.Honest.{begun, its_coefficient, its_polynomial, learnt};
+ghost use Rattle.sip_moments.specs.Honest.{of_first};
 ghost use Rattle.sip_moments.specs.Moments.{IsDegree};
 
 use crate::claims::claim_of;
@@ -120,8 +122,8 @@ impl<F: Field> MomentProver<F> {
     /// Goes to the next round by the challenge of this one: the list is folded, in place, and the
     /// polynomial of the next round is made, if one is left.
     ///
-    /// O(m) for the entries that are not 0, without memory: one `times` to fold a pair of neighbours,
-    /// and at degree k at most 3(k - 1) for each pair of the folded list.
+    /// O(m) for the entries that are not 0, without memory: one `times` to fold a pair of
+    /// neighbours, and at degree k at most 3(k - 1) for each pair of the folded list.
     pub fn learn(&mut self, r: F)
         requires { 2 ≤ length self.old.level }
         ensures learnt { self.new ≡ learnt F.MODULUS self.old (F.number r) }

@@ -1,7 +1,9 @@
 //! Laws of the prover's side. These functions do nothing: each contract is a fact that holds.
 
-ghost use Rattle.std.specs.Prelude.{◌≡◌, ℕ, ◌+◌, ◌^◌, ◌<◌, ◌≤◌, ℤ, List, [], ◌∷◌, ◌++◌, length, nat_abs, sum_by, All};
-ghost use Rattle.sip_moments.specs.Honest.{begun, its_polynomial, learnt, proving, round_polynomial};
+ghost use Rattle.std.specs.Prelude.{◌≡◌, ℕ, ◌+◌, ◌^◌, ◌<◌, ◌≤◌, ℤ, List, [], ◌∷◌, ◌++◌, length};
+ghost use Rattle.std.specs.Prelude.{nat_abs, sum_by, All};
+ghost use Rattle.sip_moments.specs.Honest.{begun, its_polynomial, learnt, proving};
+ghost use Rattle.sip_moments.specs.Honest.{round_polynomial};
 ghost use Rattle.sip_moments.specs.Moments.{moment};
 
 /// The sums over the pairs of a list that was folded by the challenges so far are those over the

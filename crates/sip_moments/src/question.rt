@@ -1,6 +1,7 @@
 //! A moment that is open, and what its replies are made from.
 
-ghost use Rattle.std.specs.Prelude.{◌≡◌, ◌<◌, ◌≤◌, ◌^◌, [], IfSome, IsOk, IsTrue, None, OnErr, OnOk, Some, ◌↔◌, false, length};
+ghost use Rattle.std.specs.Prelude.{◌≡◌, ◌<◌, ◌≤◌, ◌^◌, [], IfSome, IsOk, IsTrue, None, OnErr};
+ghost use Rattle.std.specs.Prelude.{OnOk, Some, ◌↔◌, false, length};
 ghost use Rattle.std.specs.List.{flat_map};
 ghost use Rattle.std.specs.Option.{option_map};
 ghost use Rattle.sip_field.specs.Moduli.{m61_modulus};

@@ -1,16 +1,17 @@
 //! The polynomial of a round, from a folded list.
 //!
 //! With S_j the sum of `u^(k-j)·w^j` over the pairs (u, w) of neighbours, coefficient m is C(k, m)
-//! times the m-th difference of S_0, S_1, .., S_k. An entry whose neighbour is 0 counts in S_0 or in
-//! S_k alone, and these two add up to the sum of the powers of the whole list, which both ends know:
-//! so S_k wants no products.
-ghost use Rattle.std.specs.Prelude.{◌≡◌, ℕ, List, ◌+◌, ◌-◌, ◌*◌, ◌%◌, ◌^◌, ◌<◌, ◌≤◌, length, map, slice_index, slice_index_or, sum_by, All};
+//! times the m-th difference of S_0, S_1, .., S_k. An entry whose neighbour is 0 counts in S_0 or
+//! in S_k alone, and these two add up to the sum of the powers of the whole list, which both ends
+//! know: so S_k wants no products.
+ghost use Rattle.std.specs.Prelude.{◌≡◌, ℕ, List, ◌+◌, ◌-◌, ◌*◌, ◌%◌, ◌^◌, ◌<◌, ◌≤◌, length, map};
+ghost use Rattle.std.specs.Prelude.{slice_index, slice_index_or, sum_by, All};
 ghost use Rattle.std.specs.List.{range_with_len};
 ghost use Rattle.sip_field.specs.Residue.{difference_mod};
 ghost use Rattle.sip_sums.specs.Honest.{over_pairs};
 ghost use Rattle.sip_sums.specs.Pairs.{neighbours_of, pairs_of};
+ghost use Rattle.sip_wire.specs.Table.{most_degree};
 ghost use Rattle.sip_moments.specs.Honest.{binomial, of_first};
-ghost use Rattle.sip_moments.specs.Moments.{most_degree};
 ghost use Rattle.sip_moments.specs.Powers.{mixed, AreDifferences, AreResidues};
 
 use crate::powers::power;
@@ -21,9 +22,9 @@ use sip_vector::{Level, Spot};
 /// Fills a slice with the coefficients of the round polynomial of a folded list, whose entries'
 /// powers add up to `expected`.
 ///
-/// O(m) for m entries that are not 0, without memory. At degree k it takes 3(k - 1) `times` for each
-/// pair of neighbours that are not 0, at most 4 for an entry at an even place whose neighbour is 0,
-/// and k + 1.
+/// O(m) for m entries that are not 0, without memory. At degree k it takes 3(k - 1) `times` for
+/// each pair of neighbours that are not 0, at most 4 for an entry at an even place whose neighbour
+/// is 0, and k + 1.
 pub(crate) fn fill_polynomial<F: Field>(poly: &mut [F], degree: u8, level: &Level<F>, expected: F)
     requires some { 1 ≤ degree }
     requires degree { degree ≤ most_degree }

@@ -9,11 +9,13 @@ ghost use Rattle.sip_vector.specs.declared.update.Update.{Update as AnyUpdate};
 ghost use Rattle.sip_wire.specs.declared.message.Message.TheVariants as messages;
 ghost use Rattle.sip_helper.specs.Rules.{AreTurnsBy, turns_talk_by};
 ghost use Rattle.sip_helper.specs.Turns.{version_opened};
+ghost use Rattle.sip_wire.specs.Table.{most_queries};
 ghost use Rattle.sip_moments.specs.declared.moment.Moment.{Moment as AnyMoment};
 ghost use Rattle.sip_moments.specs.Honest.{honest_reply};
 ghost use Rattle.sip_moments.specs.Manner.{honest_bytes, numbers_of};
-ghost use Rattle.sip_moments.specs.Served.{CanBeServed, behind_stream, question_heard, question_turns, run_turns, turn};
-ghost use Rattle.sip_moments.specs.Serving.{fresh_moments, moment_rules, most_moments, owed};
+ghost use Rattle.sip_moments.specs.Served.{CanBeServed, behind_stream, question_heard};
+ghost use Rattle.sip_moments.specs.Served.{question_turns, run_turns, turn};
+ghost use Rattle.sip_moments.specs.Serving.{fresh_moments, moment_rules, owed};
 
 /// Behind a moment of a stream in any pieces, and fewer challenges than the depth, the honest reply
 /// is owed, of the stream's own vector. Over a whole run, where a block has as many challenges as
@@ -35,7 +37,7 @@ pub fn honest_replies_are_owed()
 /// a claim has room, and all challenges of each one's block but the last.
 pub fn questions_may_come()
     ensures { (number depth : ℕ) (pieces : List (List AnyUpdate))
-        (asks : List (AnyMoment × List ℕ)) → 1 ≤ depth → length asks ≤ most_moments
+        (asks : List (AnyMoment × List ℕ)) → 1 ≤ depth → length asks ≤ most_queries
         → All (CanBeServed depth (flat_map (λ us. us) pieces)) asks
         → AreTurnsBy moment_rules (behind_stream number depth pieces)
         (flat_map question_turns asks ++ turn messages.End ∷ []) }

@@ -1,6 +1,7 @@
 //! The helper's end of a talk of moments.
 
-ghost use Rattle.std.specs.Prelude.{◌≡◌, ◌≢◌, ◌⊎◌, ◌^◌, ◌≤◌, Bool, IfSome, IsOk, IsTrue, OnErr, OnOk, None, Some, is_none, ◌↔◌, false};
+ghost use Rattle.std.specs.Prelude.{◌≡◌, ◌≢◌, ◌⊎◌, ◌^◌, ◌≤◌, Bool, IfSome, IsOk, IsTrue, OnErr};
+ghost use Rattle.std.specs.Prelude.{OnOk, None, Some, is_none, ◌↔◌, false};
 ghost use Rattle.sip_ports.specs.Ports.{Lasts, Rose};
 ghost use Rattle.sip_wire.specs.declared.message.Message.TheVariants as messages;
 ghost use Rattle.sip_wire.specs.declared.version.Version.TheVariants.{Two};
@@ -9,25 +10,19 @@ ghost use Rattle.sip_wire.specs.Table.{most_claim};
 ghost use Rattle.sip_helper.specs.Shown.{weight_of};
 ghost use Rattle.sip_helper.specs.Turns.{whole_of};
 ghost use Rattle.sip_moments.specs.Moments.{IsDegree};
-ghost use Rattle.sip_moments.specs.Serving.{ServesMoments, fresh_moments, may_ask, may_follow, may_question, newly_asked, side_of, step};
+ghost use Rattle.sip_moments.specs.Serving.{ServesMoments, fresh_moments, may_ask, may_follow};
+ghost use Rattle.sip_moments.specs.Serving.{may_question, newly_asked, side_of, step};
 ghost use Rattle.sip_moments.specs.inside.Keeping.{CanReply, open_of};
 
+use crate::moment::LEAST_DEGREE;
 use crate::question::Question;
 use crate::room::is_too_high;
 use sip_helper::{HelpStatus, HelperCore, Helps, OutOfTurn, talk};
 use sip_ports::{Link, PortStop, Sink};
 use sip_vector::{Depth, Side};
-use sip_wire::{Message, Place, Version};
+use sip_wire::{MOST_DEGREE, MOST_QUERIES, Message, Place, Version};
 use std::alloc::Global;
 use std::marker::Model;
-
-/// The most moments of a talk.
-const MOST_MOMENTS: u8 = 16;
-
-/// The least and the greatest degree of a moment that may be asked.
-const LEAST_DEGREE: u8 = 3;
-
-const MOST_DEGREE: u8 = 8;
 
 /// What a helper of moments knows.
 #[derive(Drop)]
@@ -107,7 +102,7 @@ impl MomentCore {
             × (self.new ≡ step self.old refused (messages.AskMoment number degree))) }
         ensures same { OnErr result (self.new ≡ self.old) }
     {
-        if self.asked >= MOST_MOMENTS || degree < LEAST_DEGREE || degree > MOST_DEGREE {
+        if self.asked >= MOST_QUERIES as u8 || degree < LEAST_DEGREE || degree > MOST_DEGREE {
             return Err(OutOfTurn);
         }
         let Some(side) = side_of(number) else {

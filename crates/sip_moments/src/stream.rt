@@ -66,7 +66,7 @@ fn moments_of(task: &MomentTask) -> ArrayVec<Moment, MOST_QUERIES>
 }
 
 /// All that the run does, up to its first stop.
-fn steps<A: Source, B: Source, L: Link, K: Sink>(
+fn moment_steps<A: Source, B: Source, L: Link, K: Sink>(
     alloc: Global,
     task: &MomentTask,
     first: &mut A,
@@ -117,8 +117,8 @@ fn steps<A: Source, B: Source, L: Link, K: Sink>(
 /// `report`.
 ///
 /// After a rejection its line is written and nothing more is sent. Nothing is asked, and the status
-/// is `TooHigh`, where the weight of a moment's side, to the power of the degree, is above
-/// 2^60 - 1: a claim may then have no room for it. The memory is a frame of 8,709 bytes, and doesn't grow
+/// is `TooHigh`, where the weight of a moment's side, to the power of the degree, is above 2^60 -
+/// 1: a claim may then have no room for it. The memory is a frame of 8,709 bytes, and doesn't grow
 /// with the stream; the time is linear in the stream and the replies, with at most `depth`
 /// multiplications for each record and moment.
 ///
@@ -145,7 +145,7 @@ pub fn moment_stream<A: Source, B: Source, L: Link, K: Sink>(
     ensures peer { Lasts L.faults L.wants L.is_sure peer.old peer.new }
     ensures report { Lasts K.faults K.wants K.is_sure report.old report.new }
 {
-    match steps(alloc, task, first, second, peer, report) {
+    match moment_steps(alloc, task, first, second, peer, report) {
         Ok(()) => Status::Accepted,
         Err(status) => status,
     }

@@ -11,8 +11,8 @@ use std::io;
 use std::io::Read;
 use std::marker::Model;
 
-/// 1,260 records of 13 bytes fit, and each frame. A FIFO holds four times as many: an end that waits
-/// to write is woken less often, the more is read at once.
+/// 1,260 records of 13 bytes fit, and each frame. A FIFO holds four times as many: an end that
+/// waits to write is woken less often, the more is read at once.
 const CAPACITY: usize = 16_384;
 
 /// The bytes that were read and not yet given, in order. It is of a fixed size, and takes no

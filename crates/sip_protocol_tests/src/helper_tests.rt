@@ -1,62 +1,30 @@
 // What a helper says, over whole talks.
-ghost use Rattle.std.specs.Prelude.{◌≤◌};
-
-use crate::events::sent_in;
 use crate::facts::expect;
 use crate::talks::{
     BYE, END, ENDS, ENTRIES, ENTRY_AND_SIBLINGS, HITTERS, NO_SIBLINGS, REFUSALS, REVEALED,
     SHARES_IN_VERSION_1, STREAM, SUB_1_2, SUMS, Talk,
 };
+use sip_check_tests::serving::{Server, first_unserved, is_served, served};
 use sip_helper::{HelpStatus, serve};
 use sip_ports::MemoryLink;
 use std::alloc::Global;
 use std::process::Abort;
 
-// Serves a talk over a link in memory, and answers how it ended and what was sent.
-fn served(
-    rt: &impl Abort,
-    alloc: Global,
-    incoming: &[u8],
-    chunk: usize,
-    fails: &[u64],
-) -> (HelpStatus, Vec<u8>)
-    requires { 1 ≤ chunk }
-{
-    let incoming = incoming.to_vec(alloc).expect(rt, "memory");
-    let fails = fails.to_vec(alloc).expect(rt, "memory");
-    let mut link = MemoryLink::new(alloc, incoming, chunk, fails);
-    let status = serve(alloc, &mut link);
-    let sent = sent_in(rt, alloc, link.talk());
-    (status, sent)
-}
+// The helper of `help`.
+struct Helper;
 
-// Whether a talk in pieces of this size ends so, and whether this is sent.
-fn is_served(
-    rt: &impl Abort,
-    alloc: Global,
-    talk: &[u8],
-    chunk: usize,
-    status: HelpStatus,
-    want: &[u8],
-) -> [bool; 2]
-    requires { 1 ≤ chunk }
-{
-    let (ended, sent) = served(rt, alloc, talk, chunk, &[]);
-    [ended == status, sent.as_slice() == want]
+impl Server for Helper {
+    type End = HelpStatus;
+
+    fn serve(alloc: Global, link: &mut MemoryLink) -> HelpStatus {
+        serve(alloc, link)
+    }
 }
 
 // Each talk, in pieces of one byte and in one piece.
 fn are_served(rt: &impl Abort, alloc: Global, talks: &[Talk]) {
-    for (row, (parts, status, sent)) in talks.iter().enumerate() {
-        let talk = parts.concat(alloc).expect(rt, "memory");
-        let want = sent.concat(alloc).expect(rt, "memory");
-        expect(rt, row, &is_served(rt, alloc, &talk, 1, *status, &want));
-        expect(
-            rt,
-            row,
-            &is_served(rt, alloc, &talk, 10_000, *status, &want),
-        );
-    }
+    let unserved = first_unserved::<Helper>(alloc, talks).expect(rt, "memory");
+    assert_eq!(rt; unserved, None);
 }
 
 #[test]
@@ -99,7 +67,7 @@ fn a_link_fails_at_each_call(rt: HostRuntime) {
     let parts: [&[u8]; 2] = [&ENTRY_AND_SIBLINGS, &NO_SIBLINGS];
     let replies = parts.concat(alloc).expect(&rt, "memory");
     for call in 1..15 {
-        let (status, sent) = served(&rt, alloc, &talk, 10_000, &[call]);
+        let (status, sent) = served::<Helper>(alloc, &talk, 10_000, &[call]).expect(&rt, "memory");
         let want = if call < 14 {
             HelpStatus::PeerFault
         } else {
@@ -149,7 +117,7 @@ fn is_shown(rt: &impl Abort, alloc: Global, least: u8, asked: &[u8], replies: &[
     let query = [4, 0, 10, 5, 0, 0, 0, 0, 0, 0, 0, 0, least];
     let parts = [stream.as_slice(), &query, asked];
     let talk = parts.concat(alloc).expect(rt, "memory");
-    is_served(rt, alloc, &talk, 10_000, HelpStatus::Served, replies)
+    is_served::<Helper>(alloc, &talk, 10_000, HelpStatus::Served, replies).expect(rt, "memory")
 }
 
 // Every pair of leaves is 2, so that all 1,024 leaves are shown at the threshold 2, by 512 in a

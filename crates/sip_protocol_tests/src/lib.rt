@@ -6,8 +6,6 @@
 #[cfg(test)]
 mod duel_liar_tests;
 #[cfg(test)]
-mod events;
-#[cfg(test)]
 mod facts;
 #[cfg(test)]
 mod helper_tests;

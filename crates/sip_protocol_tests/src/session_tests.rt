@@ -1,8 +1,8 @@
 // The queries of a run, asked one after another over a link in memory.
 ghost use Rattle.std.specs.Prelude.{◌≡◌, ◌≤◌, IfOk, false, is_err};
 
-use crate::events::events;
 use crate::session_facts::expect;
+use sip_check_tests::events::events;
 use sip_field::{Field, M61};
 use sip_ports::{MemoryLink, MemorySink, TalkEvent};
 use sip_vector::{Depth, Entry, Query, Side, Update};
@@ -66,7 +66,7 @@ fn talk(rt: &impl Abort, alloc: Global) -> Vec<TalkEvent> {
         (true, [5, 0, 8, 0, 0, 0, 0, 0, 0, 0, 2].as_slice()),
         (false, &HONEST[37..]),
     ];
-    events(rt, alloc, &parts)
+    events(alloc, &parts).expect(rt, "memory")
 }
 
 // Asks the next query, which is answered by pairs.

@@ -1,8 +1,8 @@
 // A sub-vector that is asked for by itself, by the root that a seat shows.
 ghost use Rattle.std.specs.Prelude.{◌≡◌};
 
-use crate::events::events;
 use crate::session_facts::expect;
+use sip_check_tests::events::events;
 use sip_field::{Field, M61};
 use sip_ports::{MemoryLink, MemorySink};
 use sip_vector::{Depth, Entry, Query, Side, Update};
@@ -99,7 +99,7 @@ fn is_asked(
         &mut frame,
         &mut entries,
     );
-    let said = events(rt, alloc, &parts);
+    let said = events(alloc, &parts).expect(rt, "memory");
     Ok([
         verdict == Ok(want),
         entries.as_slice() == shown,

@@ -14,18 +14,10 @@ use Rattle.sip_replies.specs.declared.taking.ReplyStop.{ReplyStop}
 use Rattle.sip_replies.specs.declared.taking.ReplyStop.TheVariants as stops
 use Rattle.sip_replies.specs.Talks.{ending}
 use Rattle.sip_replies.specs.Replies.{MayEnd}
+use Rattle.sip_replies.specs.Following.{Begun}
 use Rattle.sip_replies.specs.Asking.{AreFrames, KeepsFrames, KeepsPart, HasFault, IsPart, IsUnkept, Takes}
 use Rattle.sip_replies.proofs.Ends.{last_of, snoc_same, no_snoc}
 use Rattle.sip_replies.proofs.Framed.{AreFrames-append, AreFrames-none}
-
--- these bytes of a reply came and were kept; the rest is read by `rest`, and no byte less ends the
--- reply or shows a fault
-pub record Begun {X : Type 0} (read : List ℕ → Result X Reason) (old mid before during : Option (List TalkEvent)) (rest : List ℕ → Result X Reason) : Type 0 where
-  pub bytes : List ℕ
-  pub heard : GoesOn old mid (ins bytes)
-  pub kept : GoesOn before during (outs bytes)
-  pub reads : (more : List ℕ) → read (bytes ++ more) ≡ rest more
-  pub shortest : (front : List ℕ) (byte : ℕ) → bytes ≡ front ++ byte ∷ [] → read front ≡ Err reasons.Closed
 
 -- nothing came so far
 pub Begun-none : {X : Type 0} (read : List ℕ → Result X Reason) (old before : Option (List TalkEvent)) → Begun read old old before before read

@@ -30,14 +30,15 @@ use Rattle.sip_replies.proofs.Reading.{no_frame, read_reply-nil}
 use Rattle.sip_replies.proofs.Running.{run-none, run-fault}
 use Rattle.sip_replies.proofs.Hearing.{before_sent, heard-asked}
 use Rattle.sip_replies.proofs.Saying.{sent-one, asked-snoc}
-use Rattle.sip_replies.proofs.Turns.{Going, closed_next}
+use Rattle.sip_replies.specs.Following.{Going}
+use Rattle.sip_replies.proofs.Turns.{closed_next}
 
 -- ---- where the link stops
 
 module _ {S : Type 0} (P : Protocol S) (due : P.unasked ≡ None) (request : Message) (block : List ℕ) where
   -- nothing was said, or a part of what is asked
-  pub IsInterrupted-request : (old new before : Option (List TalkEvent)) (n : ℕ) → GoesOn old new (outs (take n (spelling P.rules.version request))) → 0 < length block → IsInterrupted P request block old new before before
-  IsInterrupted-request old new before n talk some =
+  pub IsInterrupted-request : (old new before during : Option (List TalkEvent)) (n : ℕ) → GoesOn old new (outs (take n (spelling P.rules.version request))) → GoesOn before during [] → 0 < length block → IsInterrupted P request block old new before during
+  IsInterrupted-request old new before during n talk unkept some =
       let m = spelling P.rules.version request in
       record {
         due = due;
@@ -51,7 +52,7 @@ module _ {S : Type 0} (P : Protocol S) (due : P.unasked ≡ None) (request : Mes
               ∙ ap outs (sym (take-append-drop n m))
               ∙ map-append Out (take n m) (drop n m),
         );
-        kept = record { whole = []; part = []; split = heard-outs (take n m); frames = AreFrames-none P.rules.version; cut = (places.Entries, no_frame P.rules.version places.Entries); kept = GoesOn-refl before };
+        kept = record { whole = []; part = []; split = heard-outs (take n m); frames = AreFrames-none P.rules.version; cut = (places.Entries, no_frame P.rules.version places.Entries); kept = unkept };
         unfinished = record { few = omega arith; passes = λ fault e. absurd (let is = run-none P.rules block in cc) };
         missing = inl some;
       }

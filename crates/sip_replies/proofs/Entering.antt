@@ -22,7 +22,8 @@ use Rattle.sip_replies.specs.Talks.{ending}
 use Rattle.sip_replies.specs.Asking.{AreFrames, Shows, Came, HasFault, Takes}
 use Rattle.sip_replies.proofs.Framed.{AreFrames-append}
 use Rattle.sip_replies.proofs.Reading.{read_reply-frame, read_reply-step}
-use Rattle.sip_replies.proofs.Begun.{Begun, Begun-none, frames-none, heard_all, kept_all, shortest_more}
+use Rattle.sip_replies.specs.Following.{Entered}
+use Rattle.sip_replies.proofs.Begun.{Begun-none, frames-none, heard_all, kept_all, shortest_more}
 
 -- ---- one frame
 
@@ -70,12 +71,6 @@ pub stepped : {S : Type 0} (r : Result (More × S) Reason) (Stands : S → Type 
 stepped r Stands more steps = let due = stepped_due r Stands more steps in (due.0, due.2)
 
 -- ---- a reply from its start `from`, of which the state is `s` by now
-
-pub record Entered {S : Type 0} (R : Rules S) (from : S) (old mid before during : Option (List TalkEvent)) (Stands : S → Type 0) : Type 0 where
-  pub state : S
-  pub begun : Begun (read_reply R from) old mid before during (read_reply R state)
-  pub frames : AreFrames R.version begun.bytes
-  pub stands : Stands state
 
 pub Entered-none : {S : Type 0} (R : Rules S) (from : S) (old before : Option (List TalkEvent)) (Stands : S → Type 0) → Stands from → Entered R from old old before before Stands
 Entered-none R from old before Stands stands = record { state = from; begun = Begun-none (read_reply R from) old before; frames = frames-none R.version (read_reply R from) old before; stands = stands }

@@ -1,6 +1,7 @@
 pub mod Ends
 pub mod Reading
 pub mod Framed
+pub mod FirstFrame
 pub mod Fronts
 pub mod Agreeing
 pub mod Begun
@@ -11,6 +12,8 @@ pub mod Saying
 pub mod Hearing
 pub mod Turns
 pub mod Ending
+pub mod Stepping
+pub mod Fed
 pub mod Passing
 pub mod SameEntries
 pub mod Unasked

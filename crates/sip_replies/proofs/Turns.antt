@@ -1,12 +1,12 @@
 -- The turn of one query, reply by reply, whatever its protocol.
-use Rattle.std.proofs.Common.{◌≡◌, inl, inr, ℕ, suc, ◌+◌, ◌-◌, ◌<◌, ◌≤◌, Option, Result, Ok, Err, List, [], ◌∷◌, ◌++◌, length, drop, refl, sym, ap, subst, ◌∙◌, arith, append_assoc, append-nil, length-append}
+use Rattle.std.proofs.Common.{◌≡◌, inl, inr, ℕ, suc, ◌+◌, ◌-◌, ◌<◌, Option, Result, Ok, Err, List, [], ◌∷◌, ◌++◌, length, drop, refl, sym, ap, subst, ◌∙◌, arith, append_assoc, append-nil, length-append}
 use Rattle.std.specs.Prelude.{None, IsErrAnd, slice_index}
 use Rattle.std.proofs.Math.Seq.{drop-cons}
 use Rattle.std.proofs.lemmas.List.{map-append}
 use Rattle.sip_ports.specs.declared.port.TalkEvent.{TalkEvent}
 use Rattle.sip_ports.specs.declared.port.TalkEvent.TheVariants.{Out}
 use Rattle.sip_ports.specs.Ports.{GoesOn, ins, outs}
-use Rattle.sip_ports.proofs.TalkLemmas.{GoesOn-refl, GoesOn-trans}
+use Rattle.sip_ports.proofs.TalkLemmas.{GoesOn-trans}
 use Rattle.sip_vector.specs.declared.update.Entry.{Entry}
 use Rattle.sip_vector.specs.Steps.{◌>>=◌}
 use Rattle.sip_wire.specs.declared.message.Message.{Message}
@@ -22,50 +22,12 @@ use Rattle.sip_replies.specs.Protocols.{Protocol}
 use Rattle.sip_replies.specs.Replies.{Fault, MayEnd, in_round, joined, learnt, read_reply, run, verdict, IsUnfinished}
 use Rattle.sip_replies.specs.Talks.{ending, sent, asked}
 use Rattle.sip_replies.specs.Asking.{AreFrames, KeepsFrames, KeepsPart, stop_in_round, Came, HasFault, IsPart, IsUnkept, Takes, IsRejected, IsInterrupted, IsUnrecorded, Answers}
+use Rattle.sip_replies.specs.Following.{IsShort, Ready, Going}
 use Rattle.sip_replies.proofs.Ends.{snoc_same}
-use Rattle.sip_replies.proofs.Framed.{AreFrames-append, AreFrames-none}
-use Rattle.sip_replies.proofs.Running.{run-none, run-fault, run-whole}
+use Rattle.sip_replies.proofs.Framed.{AreFrames-append}
+use Rattle.sip_replies.proofs.Running.{run-fault, run-whole}
 use Rattle.sip_replies.proofs.Hearing.{heard-asked}
 use Rattle.sip_replies.proofs.Saying.{joined-snoc, sent-one, asked-snoc}
-
--- no byte less of the last reply ends it or shows a fault
-abbrev pub IsShort : {S : Type 0} → Protocol S → List ℕ → List (List ℕ) → Type 0
-IsShort P block replies = (earlier : List (List ℕ)) (front : List ℕ) (byte : ℕ) → replies ≡ earlier ++ (front ++ byte ∷ []) ∷ [] → run P.rules block (earlier ++ front ∷ []) ≡ Err (record { round = length earlier; reason = reasons.Closed })
-
--- the next reply may come, and is read from this state
-pub record Ready {S : Type 0} (P : Protocol S) (request : Message) (block : List ℕ) (old mid before during : Option (List TalkEvent)) (replies : List (List ℕ)) (state : S) : Type 0 where
-  pub said : List TalkEvent
-  pub talk : GoesOn old mid said
-  pub kept : GoesOn before during (outs (joined replies))
-  pub frames : AreFrames P.rules.version (joined replies)
-  pub order : (bytes : List ℕ) → asked P.rules.version request block (replies ++ bytes ∷ []) ≡ said ++ ins bytes
-  pub passed : run P.rules block replies ≡ Ok state
-  pub few : length replies < length block
-
--- so many replies came and passed, and they lead to a state in which a challenge is to be learnt
-pub record Going {S : Type 0} (P : Protocol S) (request : Message) (block : List ℕ) (old mid before during : Option (List TalkEvent)) (count : ℕ) (Stands : S → Type 0) : Type 0 where
-  pub replies : List (List ℕ)
-  pub state : S
-  pub counted : length replies ≡ count
-  pub some : 1 ≤ count
-  pub within : count ≤ length block
-  pub passed : run P.rules block replies ≡ Ok (P.rules.learn state (slice_index block (count - 1)))
-  pub shortest : IsShort P block replies
-  pub talk : GoesOn old mid (asked P.rules.version request block replies)
-  pub kept : GoesOn before during (outs (joined replies))
-  pub frames : AreFrames P.rules.version (joined replies)
-  pub stands : Stands state
-
-pub Ready-first : {S : Type 0} (P : Protocol S) (request : Message) (block : List ℕ) (old mid before : Option (List TalkEvent)) → GoesOn old mid (outs (spelling P.rules.version request)) → 0 < length block → Ready P request block old mid before before [] P.rules.start
-Ready-first P request block old mid before talk some = record {
-  said = sent P.rules.version (request ∷ []);
-  talk = subst (GoesOn old mid) (sym (sent-one P.rules.version request)) talk;
-  kept = GoesOn-refl before;
-  frames = AreFrames-none P.rules.version;
-  order = λ bytes. refl;
-  passed = run-none P.rules block;
-  few = some;
-}
 
 pub Ready-later : {S : Type 0} (P : Protocol S) (request : Message) (block : List ℕ) (old mid new before during : Option (List TalkEvent)) (count : ℕ) (Stands : S → Type 0) (going : Going P request block old mid before during count Stands)
     → GoesOn mid new (outs (spelling P.rules.version (messages.Reveal (slice_index block (count - 1))))) → count < length block → Ready P request block old new before during going.replies (P.rules.learn going.state (slice_index block (count - 1)))
@@ -134,7 +96,7 @@ module _ {S : Type 0} (P : Protocol S) (due : P.unasked ≡ None) (request : Mes
       subst (λ (l : List (List ℕ)). run P.rules block (l ++ front ∷ []) ≡ Err (record { round = length l; reason = reasons.Closed })) same.0 (run-fault P.rules block replies s ready.passed front reasons.Closed (short front byte same.1))
 
   -- the reply has a fault
-  IsRejected-reply : (reason : Reason) → HasFault P.rules.version (read_reply P.rules s) mid new during now reason → IsRejected P request block old new before now (length replies) reason
+  pub IsRejected-reply : (reason : Reason) → HasFault P.rules.version (read_reply P.rules s) mid new during now reason → IsRejected P request block old new before now (length replies) reason
   IsRejected-reply reason h = record {
     replies = replies ++ h.bytes ∷ [];
     talk = came_talk h.bytes (ending reason) h.heard;

@@ -1,6 +1,7 @@
 -- What the calls did that ask: what was said on the link, and what was written to the keeper of
 -- what is received.
-use Rattle.std.specs.Prelude.{◌≡◌, ◌≢◌, All, ℕ, List, [], ◌∷◌, ◌++◌, flat_map, Option, None, Result, Ok, Err, IsTrue}
+use Rattle.std.specs.Prelude.{◌≡◌, ◌≢◌, All, ℕ, List, [], ◌∷◌, ◌++◌, flat_map, Option, None, Result}
+use Rattle.std.specs.Prelude.{Ok, Err, IsTrue}
 use Rattle.sip_ports.specs.declared.port.PortStop.{PortStop}
 use Rattle.sip_ports.specs.declared.port.PortStop.TheVariants as ports
 use Rattle.sip_ports.specs.declared.port.TalkEvent.{TalkEvent}
@@ -24,7 +25,8 @@ use Rattle.sip_replies.specs.declared.taking.ReplyStop.{ReplyStop}
 use Rattle.sip_replies.specs.declared.taking.ReplyStop.TheVariants as reply_stops
 use Rattle.sip_replies.specs.Checks.{answer_of}
 use Rattle.sip_replies.specs.Protocols.{Protocol}
-use Rattle.sip_replies.specs.Replies.{reason_of, joined, MayEnd, IsUnfinished, IsMissing, IsUnjudged, IsFaulty, IsAccepted}
+use Rattle.sip_replies.specs.Replies.{reason_of, joined, MayEnd, IsUnfinished, IsMissing}
+use Rattle.sip_replies.specs.Replies.{IsUnjudged, IsFaulty, IsAccepted}
 use Rattle.sip_replies.specs.Talks.{IsPrefix, asked, asked_unless, ending}
 
 -- ---- why a call stopped
@@ -140,7 +142,8 @@ pub record Shows (version : Version) (m : Message) (said : Message × List ℕ) 
 
 module _ {S : Type 0} (P : Protocol S) (request : Message) (block : List ℕ)
     (old new before now : Option (List TalkEvent)) where
-  -- all replies came, in whole frames, and are accepted; where the answer was known nothing was said
+  -- all replies came, in whole frames, and are accepted; where the answer was known nothing was
+  -- said
   pub record IsAnswered (answer : Answer) : Type 0 where
     pub replies : List (List ℕ)
     pub talk : GoesOn old new (asked_unless P.unasked P.rules.version request block replies)

@@ -3,6 +3,8 @@ pub mod Replies
 pub mod Checks
 pub mod Talks
 pub mod Asking
+pub mod Following
+pub mod Feeding
 pub mod Rising
 pub mod SameEntries
 pub mod LawProofs

@@ -1,5 +1,7 @@
 -- Replies as bytes, by any protocol: what they state, their first fault, when they are accepted.
-use Rattle.std.specs.Prelude.{◌≡◌, ◌≢◌, ◌≤◌, ◌<◌, ◌⊎◌, min, ℕ, zero, suc, ◌+◌, ◌==◌, Bool, true, ◌&&◌, List, [], ◌∷◌, ◌++◌, length, drop, flat_map, Some, None, Result, Ok, Err, is_ok, IsTrue}
+use Rattle.std.specs.Prelude.{◌≡◌, ◌≢◌, ◌≤◌, ◌<◌, ◌⊎◌, min, ℕ, zero, suc, ◌+◌, ◌==◌, Bool, true}
+use Rattle.std.specs.Prelude.{◌&&◌, List, [], ◌∷◌, ◌++◌, length, drop, flat_map, Some, None, Result}
+use Rattle.std.specs.Prelude.{Ok, Err, is_ok, IsTrue}
 use Rattle.sip_ports.specs.declared.port.TalkEvent.{TalkEvent}
 use Rattle.sip_ports.specs.declared.port.TalkEvent.TheVariants.{Ended}
 use Rattle.sip_wire.specs.declared.kind.Place.{Place}
@@ -129,8 +131,8 @@ IsMissing R rs replies =
 abbrev pub MayEnd : Type 0 → List TalkEvent → Type 0
 MayEnd IsOpen ended = (ended ≡ []) ⊎ ((ended ≡ Ended ∷ []) × IsOpen)
 
--- What came of the last reply was not judged. The replies before it are whole and have no fault, and
--- no byte less of it ends it or shows a fault. The link's end may have been found behind it.
+-- What came of the last reply was not judged. The replies before it are whole and have no fault,
+-- and no byte less of it ends it or shows a fault. The link's end may have been found behind it.
 pub record IsUnjudged {S : Type 0} (P : Protocol S) (rs : List ℕ) (replies : List (List ℕ))
     (ended : List TalkEvent) : Type 0 where
   pub asked : P.unasked ≡ None

@@ -33,7 +33,8 @@ asked version request challenges replies =
     sent version (request ∷ []) ++ exchanged version replies challenges
 
 -- the same; or nothing, where the answer is known without a reply
-abbrev pub asked_unless : Option Answer → Version → Message → List ℕ → List (List ℕ) → List TalkEvent
+abbrev pub asked_unless : Option Answer → Version → Message → List ℕ → List (List ℕ)
+    → List TalkEvent
 asked_unless None version request challenges replies = asked version request challenges replies
 asked_unless (Some known) version request challenges replies = []
 

@@ -1,19 +1,25 @@
 //! One query, asked of the helper and checked.
-ghost use Rattle.std.specs.Prelude.{◌≡◌, length, Ok, Err, IsTrue, MatchResult};
-ghost use Rattle.sip_ports.specs.Ports.{HasCause, Lasts, Rose, SendsWhole};
-ghost use Rattle.sip_wire.specs.Spelling.{fits, spelling};
-ghost use Rattle.sip_wire.specs.declared.message.Message.TheVariants as messages;
+ghost use Rattle.std.specs.Prelude.{◌≡◌, ◌<◌, ℕ, List, true, false, length, Ok, Err, IfOk, IsTrue};
+ghost use Rattle.std.specs.Prelude.{MatchResult};
+ghost use Rattle.std.specs.declared.option.Option.{Option as AnyOption};
+ghost use Rattle.sip_ports.specs.declared.port.TalkEvent.{TalkEvent as AnyEvent};
+ghost use Rattle.sip_ports.specs.Ports.{Lasts, Rose};
+ghost use Rattle.sip_wire.specs.Spelling.{fits};
+ghost use Rattle.sip_wire.specs.declared.message.Message.{Message as AnyMessage};
 ghost use Rattle.sip_replies.specs.Protocols.{Begins};
 ghost use Rattle.sip_replies.specs.Asking.{Answers, stop_in_round};
+ghost use Rattle.sip_replies.specs.Following.{Follows, IsAt, is_hearing, is_open, left};
 ghost use Rattle.sip_replies.specs.declared.taking.ReplyStop.{ReplyStop as AnyReplyStop};
 ghost use Rattle.sip_replies.specs.declared.taking.ReplyStop.TheVariants as reply_stops;
+ghost use Rattle.sip_replies.specs.declared.turn.Stage.TheVariants as stages;
 
 use crate::check::{Check, Said};
 use crate::request::Request;
-use crate::taking::{ReplyStop, take_reply};
+use crate::taking::{ReplyStop, receive};
+use crate::turn::Turn;
 use sip_ports::{Link, PortStop, Sink};
 use sip_vector::Entry;
-use sip_wire::{Frame, Reason, Version, encode_reveal};
+use sip_wire::{Frame, Reason, Version};
 
 /// Why a query has no answer.
 #[derive(Clone, Copy, Debug, PartialEq, Eq)]
@@ -66,14 +72,59 @@ fn in_round(round: u8, taken: Result<(), ReplyStop>) -> Result<(), AskStop>
     }
 }
 
-/// Reveals a challenge.
-fn send_reveal<L: Link>(challenge: u64, version: Version, link: &mut L) -> Result<(), PortStop>
-    requires { IsTrue (fits version (messages.Reveal challenge)) }
-    ensures talk { SendsWhole (L.talk link.old) (L.talk link.new) result
-        (spelling version (messages.Reveal challenge)) }
-    ensures cause { HasCause L.faults L.wants L.is_sure link.old link.new result }
+// Hears the reply that is due. The bytes of each frame are written to `keep` before the frame is
+// judged.
+fn hear<C: Check, L: Link, K: Sink>(
+    turn: &mut Turn,
+    check: &mut C,
+    places: &mut [Entry],
+    frame: &mut Frame,
+    link: &mut L,
+    keep: &mut K,
+) -> Result<(), AskStop>
+    requires hears { turn.old.stage ≡ stages.Hears }
+    requires at { IsAt turn.old (C.phase check.old) }
+    requires stood { (asked : C.Asked) × (s : C.State) × C.stands asked s check.old places.old }
+    ensures version { turn.new.version ≡ turn.old.version }
+    ensures nearer { IfOk result (λ _. left turn.new < left turn.old) }
+    ensures silent { IfOk result (λ _. is_hearing turn.new.stage ≡ false) }
+    ensures at { IfOk result (λ _. is_open turn.new.stage ≡ true
+        → IsAt turn.new (C.phase check.new)) }
+    ensures block { IfOk result (λ _. is_open turn.new.stage ≡ true
+        → (C.phase check.new).block ≡ (C.phase check.old).block) }
+    ensures stands { (asked : C.Asked) (s : C.State) → C.stands asked s check.old places.old
+        → IfOk result (λ _. is_open turn.new.stage ≡ true
+        → (t : C.State) × C.stands asked t check.new places.new) }
+    ensures follows { (asked : C.Asked) (request : AnyMessage) (block : List ℕ)
+        (old before : AnyOption (List AnyEvent)) → (C.phase check.old).block ≡ block
+        → Follows (C.protocol asked) request block old (L.talk link.old) before
+        (K.talk keep.old) (λ s. C.stands asked s check.old places.old) places.old turn.old
+        → MatchResult result
+        (λ _. Follows (C.protocol asked) request block old (L.talk link.new) before
+        (K.talk keep.new) (λ s. C.stands asked s check.new places.new) places.new turn.new)
+        (λ stop. Answers (C.protocol asked) request block old (L.talk link.new) before
+        (K.talk keep.new) places.new (Err stop)) }
+    ensures lent { C.lent check.new ≡ C.lent check.old }
+    ensures places { length places.new ≡ length places.old }
+    ensures link { Lasts L.faults L.wants L.is_sure link.old link.new }
+    ensures keep { Lasts K.faults K.wants K.is_sure keep.old keep.new }
+    ensures peer { result ≡ Err AskStop.PeerFault → Rose (L.faults link.old) (L.faults link.new) }
+    ensures keeper { result ≡ Err AskStop.KeepFault → Rose (K.faults keep.old) (K.faults keep.new) }
+    ensures memory { result ≡ Err AskStop.OutOfMemory → Rose (L.wants link.old) (L.wants link.new) }
+    ensures keeper_memory { result ≡ Err AskStop.KeepOutOfMemory
+        → Rose (K.wants keep.old) (K.wants keep.new) }
 {
-    encode_reveal(challenge, version, link)
+    loop {
+        let place = check.place();
+        in_round(
+            turn.round(),
+            receive(turn.version(), place, frame, link, keep),
+        )?;
+        turn.took(check, places, frame.message());
+        if !turn.is_hearing() {
+            return Ok(());
+        }
+    }
 }
 
 /// Asks what is requested, takes the replies, reveals a challenge between two of them, and checks
@@ -116,25 +167,13 @@ pub fn ask<C: Check, Q: Request, L: Link, K: Sink>(
     ensures keeper_memory { result ≡ Err AskStop.KeepOutOfMemory
         → Rose (K.wants keep.old) (K.wants keep.new) }
 {
-    if let Some(said) = check.unasked() {
-        return Ok(said);
-    }
-    let depth = check.depth();
-    request.send(version, link)?;
-    in_round(0, take_reply(check, version, places, frame, link, keep))?;
-    for round in 1..depth {
-        let challenge = check.reveal();
-        send_reveal(challenge, version, link)?;
-        in_round(
-            round as u8,
-            take_reply(check, version, places, frame, link, keep),
-        )?;
-    }
-    match check.finish(places) {
-        Ok(said) => Ok(said),
-        Err(reason) => Err(AskStop::Rejected {
-            round: depth as u8,
-            reason,
-        }),
+    let mut turn = Turn::begin(check, version);
+    loop {
+        if let Some(verdict) = turn.verdict() {
+            return verdict;
+        }
+        turn.send(request, link)?;
+        turn.sent();
+        hear(&mut turn, check, places, frame, link, keep)?;
     }
 }

@@ -1,5 +1,6 @@
 // A check of the replies to one query.
-ghost use Rattle.std.specs.Prelude.{◌≡◌, ◌≢◌, ◌≤◌, ◌<◌, ℕ, List, length, slice_index, Ok, Err, IfOk, IsTrue};
+ghost use Rattle.std.specs.Prelude.{◌≡◌, ◌≢◌, ◌≤◌, ◌<◌, ℕ, List, length, slice_index, Ok, Err};
+ghost use Rattle.std.specs.Prelude.{IfOk, IsTrue};
 ghost use Rattle.std.specs.Option.{option_map};
 
 use sip_vector::Entry;
@@ -38,7 +39,8 @@ pub trait Check {
     ghost use Rattle.sip_wire.specs.declared.version.Version.{Version as AnyVersion};
     ghost use Rattle.sip_wire.specs.Spelling.{fits};
     ghost use Rattle.sip_wire.specs.Values.{InRange};
-    ghost use Rattle.sip_replies.specs.Protocols.{Protocol, Phase, Awaits, Reveals, Ends, after, revealed_more};
+    ghost use Rattle.sip_replies.specs.Protocols.{Protocol, Phase, Awaits, Reveals, Ends, after};
+    ghost use Rattle.sip_replies.specs.Protocols.{revealed_more};
     ghost use Rattle.sip_replies.specs.Checks.{Steps, answered, answer_of};
     ghost use Rattle.sip_replies.specs.declared.check.More.TheVariants.{Due};
 

@@ -7,15 +7,18 @@
 //! | `Replies` | what replies state as bytes, their first fault, when they are accepted |
 //! | `Talks` | the order of bytes in the talk of a query |
 //! | `Checks`, `Asking` | what the calls of a check did, and those that ask |
+//! | `Following`, `Feeding` | where in its talk a query is, over a link and without one |
 //! | `Rising`, `SameEntries` | two tests that the checks of several kinds make |
 #![tactic(auto)]
 
 mod asking;
 mod check;
+mod feeding;
 pub mod laws;
 mod request;
 mod rising;
 mod taking;
+mod turn;
 
 pub use asking::{AskStop, ask};
 pub use check::{Check, More, Said};

@@ -1,15 +1,11 @@
-// One reply, taken off a link frame by frame, with all that comes kept.
-ghost use Rattle.std.specs.Prelude.{◌≡◌, ℕ, List, length, Ok, Err, IfOk, MatchResult};
+// One frame of a reply, taken off a link, with all that comes kept.
+ghost use Rattle.std.specs.Prelude.{◌≡◌, Err};
 ghost use Rattle.sip_ports.specs.Ports.{Lasts, Rose};
 ghost use Rattle.sip_wire.specs.Frames.{frame_message};
-ghost use Rattle.sip_replies.specs.Protocols.{Awaits, after};
-ghost use Rattle.sip_replies.specs.Replies.{read_one, read_reply};
+ghost use Rattle.sip_replies.specs.Replies.{read_one};
 ghost use Rattle.sip_replies.specs.Asking.{Shows, Takes, filled};
-ghost use Rattle.sip_replies.specs.declared.check.More.TheVariants.{Complete};
 
-use crate::check::{Check, More};
 use sip_ports::{Link, PortStop, Sink, write_whole};
-use sip_vector::Entry;
 use sip_wire::{Frame, Place, Reason, Version, WireFault, decode_within};
 
 /// Why a reply was not taken.
@@ -100,47 +96,6 @@ pub(crate) fn receive<L: Link, K: Sink>(
         judged => {
             write_whole(keep, frame.bytes())?;
             Ok(judged?)
-        }
-    }
-}
-
-/// Takes one reply, frame by frame. The bytes of each frame are written to `keep` before they are
-/// judged.
-pub(crate) fn take_reply<C: Check, L: Link, K: Sink>(
-    check: &mut C,
-    version: Version,
-    places: &mut [Entry],
-    frame: &mut Frame,
-    link: &mut L,
-    keep: &mut K,
-) -> Result<(), ReplyStop>
-    requires phase { Awaits (C.phase check.old) }
-    requires stood { (asked : C.Asked) × (s : C.State) × C.stands asked s check.old places.old }
-    ensures took { (asked : C.Asked) (s : C.State) → (C.protocol asked).rules.version ≡ version
-        → C.stands asked s check.old places.old
-        → Takes (C.protocol asked).rules.version (read_reply (C.protocol asked).rules s)
-        (L.talk link.old) (L.talk link.new) (K.talk keep.old) (K.talk keep.new)
-        (λ _ t. C.stands asked t check.new places.new) result }
-    ensures stands { (asked : C.Asked) (s : C.State) → C.stands asked s check.old places.old
-        → IfOk result (λ _. (t : C.State) × C.stands asked t check.new places.new) }
-    ensures phase { IfOk result (λ _. C.phase check.new ≡ after Complete (C.phase check.old)) }
-    ensures lent { C.lent check.new ≡ C.lent check.old }
-    ensures places { length places.new ≡ length places.old }
-    ensures link { Lasts L.faults L.wants L.is_sure link.old link.new }
-    ensures keep { Lasts K.faults K.wants K.is_sure keep.old keep.new }
-    ensures peer { result ≡ Err ReplyStop.PeerFault → Rose (L.faults link.old) (L.faults link.new) }
-    ensures keeper { result ≡ Err ReplyStop.KeepFault
-        → Rose (K.faults keep.old) (K.faults keep.new) }
-    ensures memory { result ≡ Err ReplyStop.OutOfMemory
-        → Rose (L.wants link.old) (L.wants link.new) }
-    ensures keeper_memory { result ≡ Err ReplyStop.KeepOutOfMemory
-        → Rose (K.wants keep.old) (K.wants keep.new) }
-{
-    loop {
-        receive(version, check.place(), frame, link, keep)?;
-        match check.take(frame.message(), places)? {
-            More::Due => {}
-            More::Complete => return Ok(()),
         }
     }
 }

@@ -16,9 +16,9 @@ use Rattle.sip_verifier.specs.QuerySeats.{Seated, StandsFor}
 use Rattle.sip_verifier.specs.runs.Askers.{IsFirst}
 use Rattle.sip_verifier.specs.Sittings.{Sitting, asks_left, remaining_of}
 use Rattle.sip_verifier.proofs.QueriesChecked.{next_of}
-use Rattle.sip_session.specs.declared.asking.At.{At}
-use Rattle.sip_session.specs.declared.asking.Came as helper_came
-use Rattle.sip_session.specs.declared.asking.Came.TheVariants as cames
+use Rattle.sip_session.specs.declared.panel_asking.At.{At}
+use Rattle.sip_session.specs.declared.panel_asking.Came as helper_came
+use Rattle.sip_session.specs.declared.panel_asking.Came.TheVariants as cames
 use Rattle.sip_session.specs.inside.Hearing.{AllTalks}
 use Rattle.sip_session.specs.inside.Trying.{Halts, Leads, TrailsTo, Tries, turn_at}
 use Rattle.sip_session.proofs.Attempts.{get_drop, leads_answered, leads_dropped, leads_out, leads_stopped}

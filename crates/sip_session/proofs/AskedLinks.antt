@@ -1,9 +1,13 @@
 -- What was done to each link by one that was asked, and by those that were asked before.
-use Rattle.std.proofs.Common.{◌≡◌, ◌≢◌, ℕ, ◌<◌, ◌≤◌, List, length, set, get_or, inl, inr, refl, sym, ap, ◌∙◌, subst, arith, get_or-set_same, get_or-set_other}
+use Rattle.std.proofs.Common.{◌≡◌, ◌≢◌, ℕ, ◌+◌, ◌<◌, ◌≤◌, List, length, set, get_or, inl, inr, refl, sym, ap, ◌∙◌, subst, arith, get_or-set_same, get_or-set_other}
 use Rattle.std.proofs.lemmas.Bool.{cases_eq}
-use Rattle.std.proofs.lemmas.Option.{get_or_from_slice_get}
+use Rattle.std.proofs.lemmas.Option.{get_or_from_slice_get, slice_get_within}
 use Rattle.sip_session.specs.Links.{EachLink}
 use Rattle.sip_session.proofs.LinkLemmas.{links_then}
+
+-- one that is at most another, and is not it, is below
+below : (place i : ℕ) → place ≢ i → place ≤ i → place < i
+below place i other most = omega (arith, other, most)
 
 module _ {L : Type 0} where
   -- one link was put in the place of another
@@ -36,6 +40,36 @@ module _ {L : Type 0} where
   others_stay links i one read less =
       link_put (λ place l m. place ≢ i → m ≡ l) links i one read less
       (λ other. absurd (other refl)) (λ place l other _. refl)
+
+  module _ (H : L → Type 0) where
+    -- what holds of the one that was asked
+    pub asked_is : (links : List L) (i : ℕ) (one read : L) → i < length links → H one
+        → EachLink (λ place l m. place ≡ i → H m) links (set links i one)
+    asked_is links i one read less holds =
+        link_put (λ place l m. place ≡ i → H m) links i one read less
+        (λ _. holds) (λ place l other same. absurd (other same))
+
+    -- one more was asked: what holds of those before its turn
+    pub all_before : (old mid new : List L) (i to : ℕ) → length new ≡ length mid → to ≤ i + 1
+        → EachLink (λ place l m. place < i → H m) old mid
+        → EachLink (λ place l m. place ≢ i → m ≡ l) mid new
+        → EachLink (λ place l m. place ≡ i → i < to → H m) mid new
+        → EachLink (λ place l m. place < to → H m) old new
+    all_before old mid new i to count next before others holds =
+        links_then (λ place l m. place < i → H m)
+        (λ place l m. (place ≢ i → m ≡ l) × (place ≡ i → i < to → H m))
+        (λ place l m. place < to → H m) old mid new count
+        (λ place l m n p q less. elim (cases_eq place i) [
+          | inl same ↦ q.1 same (omega (arith, same, less))
+          | inr other ↦ subst H (sym (q.0 other)) (p (below place i other (omega (arith, next, less))))
+        ])
+        before (λ place l m was is. (others place l m was is, holds place l m was is))
+
+    -- and of all, where its turn is the last
+    pub all_out : (old new : List L) (to : ℕ) → length new ≡ to
+        → EachLink (λ place l m. place < to → H m) old new → EachLink (λ _ l m. H m) old new
+    all_out old new to size holds = λ place l m was is.
+        holds place l m was is (omega (arith, size, slice_get_within new place m is))
 
   module _ (K : L → Type 0) where
     -- it answered, so it is one of those that are left

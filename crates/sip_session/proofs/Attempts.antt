@@ -18,8 +18,8 @@ use Rattle.sip_verifier.specs.declared.status.Status.TheVariants as statuses
 use Rattle.sip_verifier.specs.Questions.{Question, asking, said_for}
 use Rattle.sip_verifier.specs.runs.Asking.{question_of}
 use Rattle.sip_verifier.proofs.QueriesChecked.{flat_map_snoc}
-use Rattle.sip_session.specs.declared.asking.Came as helper_came
-use Rattle.sip_session.specs.declared.asking.Came.TheVariants as cames
+use Rattle.sip_session.specs.declared.panel_asking.Came as helper_came
+use Rattle.sip_session.specs.declared.panel_asking.Came.TheVariants as cames
 use Rattle.sip_session.specs.inside.Hearing.{AllTalks}
 use Rattle.sip_session.specs.inside.Trying.{Halts, IsSeated, Silent, StopsInLine, Trail, TrailsInLine, TrailsTo, Tries, turn_at}
 use Rattle.sip_session.specs.PanelEnds.{behind_replies, line_of, lines, said_to}

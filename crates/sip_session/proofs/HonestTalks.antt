@@ -1,19 +1,15 @@
 -- An honest talk that begins with the stream, questions that were accepted, and the rounds of the next one.
-use Rattle.std.proofs.Common.{◌≡◌, ℕ, ◌+◌, ◌/◌, ◌≤◌, List, ◌∷◌, ◌++◌, length, map, refl, sym, ap, ◌∙◌, subst, append_assoc, append-nil, arith}
+use Rattle.std.proofs.Common.{◌≡◌, ℕ, ◌+◌, ◌≤◌, List, ◌∷◌, ◌++◌, length, map, sym, ap, ◌∙◌, arith}
 use Rattle.std.specs.Prelude.{All}
 use Rattle.std.specs.List.{flat_map}
 use Rattle.sip_ports.specs.declared.port.TalkEvent.{TalkEvent}
 use Rattle.sip_ports.specs.declared.port.TalkEvent.TheVariants.{Ended}
-use Rattle.sip_ports.specs.Ports.{outs}
-use Rattle.sip_ports.proofs.TalkLemmas.{outs-append}
 use Rattle.sip_vector.specs.declared.update.Update.{Update}
 use Rattle.sip_vector.specs.Pieces.{cut}
 use Rattle.sip_vector.specs.Streams.{IsLegal}
-use Rattle.sip_wire.specs.declared.message.Message.TheVariants as messages
 use Rattle.sip_wire.specs.declared.version.Version.{Version}
-use Rattle.sip_wire.specs.Spelling.{spelling}
 use Rattle.sip_wire.specs.Table.{most_queries, most_rows}
-use Rattle.sip_wire.specs.Versions.{deepest, number_of}
+use Rattle.sip_wire.specs.Versions.{deepest}
 use Rattle.sip_helper.specs.Streams.{vectors_of}
 use Rattle.sip_helper.specs.Turns.{HelperState, fresh}
 use Rattle.sip_verifier.specs.Questions.{Accepted, said_for}
@@ -21,35 +17,15 @@ use Rattle.sip_verifier.specs.Talks.{stream_sent}
 use Rattle.sip_duel.specs.Story.{IsHonestTalk}
 use Rattle.sip_duel.proofs.WalkLemmas.{Holds, HoldsOfWhole, Round, Walk, exchange}
 use Rattle.sip_duel.proofs.QueryLemmas.{IsAtRest}
-use Rattle.sip_duel.proofs.StreamLemmas.{silent, stream_rounds, walk_stream}
+use Rattle.sip_duel.proofs.StreamLemmas.{stream_rounds}
 use Rattle.sip_duel.proofs.DoneLemmas.{done_rounds}
-use Rattle.sip_duel.proofs.AcceptLemmas.{exchange_feed, pieces_all, pieces_fine}
+use Rattle.sip_duel.proofs.AcceptLemmas.{said_stream, walk_all}
 use Rattle.sip_session.proofs.HonestFronts.{front_holds, front_whole}
 use Rattle.sip_session.proofs.HonestQuestions.{Put, said_own, walk_own}
 
 module _ (v : Version) (depth : ℕ) (stream : List Update) (some : 1 ≤ depth) (legal : IsLegal depth stream) (shallow : depth ≤ deepest v) (Last : List ℕ → List ℕ → Type 0) where
   abbrev frames : List (List Update)
   frames = cut most_rows stream
-
-  whole : flat_map (λ p. p) frames ≡ stream
-  whole = pieces_all ((length stream + 511) / 512) stream refl
-
-  -- what is said in the rounds of the stream
-  said_stream : (tail : List Round) → exchange v (stream_rounds Last v depth shallow frames tail) ≡ stream_sent v depth stream ++ exchange v tail
-  said_stream tail =
-      let o : List ℕ = spelling v (messages.Open (number_of v) depth) in
-      let f : List ℕ = flat_map (spelling v) (map (λ us. messages.Updates (record { items = us })) frames) in
-      let e : List ℕ = spelling v messages.EndStream in
-      ap (λ l. outs o ++ l) (exchange_feed v frames (silent messages.EndStream ∷ tail))
-      ∙ sym (append_assoc (outs o) (outs f) (outs e ++ exchange v tail))
-      ∙ sym (append_assoc (outs o ++ outs f) (outs e) (exchange v tail))
-      ∙ ap (λ l. (l ++ outs e) ++ exchange v tail) (sym (outs-append o f))
-      ∙ ap (λ l. (outs (o ++ f) ++ outs l) ++ exchange v tail) (sym (append-nil e))
-
-  walk_all : (tail : List Round) → ((t : HelperState) → IsAtRest v depth (vectors_of depth stream) t 0 → Walk Last v t tail) → Walk Last v fresh (stream_rounds Last v depth shallow frames tail)
-  walk_all tail on =
-      walk_stream Last v depth shallow some frames tail (pieces_fine ((length stream + 511) / 512) stream refl) (subst (IsLegal depth) (sym whole) legal)
-      (λ t at. on t (subst (λ us. IsAtRest v depth (vectors_of depth us) t 0) whole at))
 
   -- ---- questions that were accepted, and then these rounds
 
@@ -60,10 +36,10 @@ module _ (v : Version) (depth : ℕ) (stream : List Update) (some : 1 ≤ depth)
     rounds = stream_rounds Last v depth shallow frames (done_rounds v depth stream some legal done tail)
 
     walk : Walk Last v fresh rounds
-    walk = walk_all (done_rounds v depth stream some legal done tail) (λ t at. walk_own v depth stream some legal Last done tail put t 0 at (omega (arith, room)) (λ u m less again. on u m (omega (arith, less)) again))
+    walk = walk_all v depth stream Last shallow some legal (done_rounds v depth stream some legal done tail) (λ t at. walk_own v depth stream some legal Last done tail put t 0 at (omega (arith, room)) (λ u m less again. on u m (omega (arith, less)) again))
 
     said_is : stream_sent v depth stream ++ said ≡ exchange v rounds
-    said_is = ap (λ l. stream_sent v depth stream ++ l) (are ∙ said_own v depth stream some legal done tail put) ∙ sym (said_stream (done_rounds v depth stream some legal done tail))
+    said_is = ap (λ l. stream_sent v depth stream ++ l) (are ∙ said_own v depth stream some legal done tail put) ∙ sym (said_stream v depth stream Last shallow (done_rounds v depth stream some legal done tail))
 
     -- whatever follows, of their last reply it holds
     pub honest_holds : (talk more : List TalkEvent) → talk ≡ (stream_sent v depth stream ++ said) ++ more → IsHonestTalk talk → Holds Last

@@ -14,7 +14,7 @@ use Rattle.sip_vector.specs.Extensions.{ones}
 use Rattle.sip_vector.specs.Streams.{int_sum, vector, IsLegal}
 use Rattle.sip_vector.specs.Thresholds.{share_of}
 use Rattle.sip_vector.proofs.Sides.{length-vector}
-use Rattle.sip_counts.specs.Joint.{Asked, IsBounded, bounds}
+use Rattle.sip_counts.specs.Joint.{CountedQuestion, IsBounded, bounds}
 use Rattle.sip_counts.specs.Strategies.{Strategy, IsOfBytes}
 use Rattle.sip_counts.proofs.Joint.{few_misled_of}
 use Rattle.sip_wire.specs.declared.version.Version.{Version}
@@ -34,7 +34,7 @@ use Rattle.sip_session.specs.JointCounts.{asked_over, misled_over, CanBeCountedO
 -- ---- one query
 
 module _ (version : Version) (p depth : ℕ) (stream : List Update) (prime : IsPrime p) where
-  abbrev Row : Query → Asked
+  abbrev Row : Query → CountedQuestion
   Row query = asked_by (λ kind. kind.accepts_small) depth (kind_row_over version p depth stream query)
 
   pub bounded : (query : Query) → CanBeCountedOver version p depth stream query → IsBounded p depth (Row query)

@@ -8,6 +8,7 @@ pub mod Tries
 pub mod Attempts
 pub mod Asked
 pub mod AskedLinks
+pub mod AskedOn
 pub mod Seats
 pub mod JointPanels
 pub mod Begun

@@ -1,24 +1,32 @@
 -- What came of asking one helper, and of writing its line.
-use Rattle.std.proofs.Common.{◌≡◌, ℕ, Option, Some, Result, Ok, Err, List, take, drop, inl, inr, refl, sym, subst, take-append-drop}
+use Rattle.std.proofs.Common.{◌≡◌, ℕ, Option, Some, Result, Ok, Err, List, false, take, drop, inl, inr, refl, sym, ap, subst, ◌∙◌, take-append-drop}
+use Rattle.std.specs.Prelude.{All, OnOk}
 use Rattle.sip_ports.specs.declared.port.PortStop.{PortStop}
 use Rattle.sip_ports.specs.declared.port.PortStop.TheVariants as port_stops
 use Rattle.sip_ports.specs.declared.port.TalkEvent.{TalkEvent}
 use Rattle.sip_ports.specs.Ports.{SendsWhole}
 use Rattle.sip_vector.specs.declared.query.Query.{Query}
+use Rattle.sip_vector.specs.declared.update.Update.{Update}
 use Rattle.sip_vector.specs.Answers.{Answer}
 use Rattle.sip_wire.specs.declared.message.Reason.{Reason}
+use Rattle.sip_verifier.specs.declared.asker.Unanswered.{Unanswered}
 use Rattle.sip_verifier.specs.declared.asker.Unanswered.TheVariants as unanswered
 use Rattle.sip_verifier.specs.declared.session.SessionFault.{SessionFault}
 use Rattle.sip_verifier.specs.declared.session.SessionFault.TheVariants as faults
 use Rattle.sip_verifier.specs.declared.status.Status.{Status}
+use Rattle.sip_verifier.specs.declared.status.Status.TheVariants as statuses
 use Rattle.sip_verifier.specs.inside.Ending.{status_of_fault, status_of_report}
+use Rattle.sip_verifier.specs.QuerySeats.{StandsFor}
 use Rattle.sip_verifier.specs.Reports.{dropped}
-use Rattle.sip_verifier.specs.runs.Askers.{Asks}
+use Rattle.sip_verifier.specs.runs.Askers.{Asks, Remaining, behind, has_failed}
 use Rattle.sip_verifier.specs.runs.Asking.{IsAnswered, IsRejected}
 use Rattle.sip_verifier.specs.runs.Manners.{Manner}
 use Rattle.sip_verifier.specs.runs.Progress.{PassesInPart}
+use Rattle.sip_verifier.specs.Sittings.{Sitting, remaining_of}
+use Rattle.sip_verifier.specs.Snapshots.{counts}
+use Rattle.sip_verifier.specs.Statuses.{Stops, stops_asking}
 use Rattle.sip_verifier.proofs.QueriesChecked.{OnReport}
-use Rattle.sip_session.specs.inside.Trying.{DropsInPart, StopsInLine, Tries}
+use Rattle.sip_session.specs.inside.Trying.{AsksOn, DropsInPart, StopsInLine, Tries}
 
 module _ (m : Manner Query Answer) (ask : Query × List ℕ) (helper number : ℕ) (old new blank full : Option (List TalkEvent)) where
   -- it stopped in a line, whatever of the report stopped
@@ -63,3 +71,34 @@ fault_tried m ask helper number old new blank States faults.PeerFault asks no_pe
 fault_tried m ask helper number old new blank States faults.KeepFault asks no_peer no_keep = absurd (no_keep refl)
 fault_tried m ask helper number old new blank States faults.OutOfMemory (inl asks) no_peer no_keep = inr (inl (record { interrupted = asks; same = refl }))
 fault_tried m ask helper number old new blank States faults.OutOfMemory (inr asks) no_peer no_keep = inr (inr (record { unrecorded = asks; same = refl }))
+
+-- ---- what ends a call is no rejection
+
+-- no stop of the report is one
+pub line_goes_on : {T : Type 0} (written : Result (Unit {0}) PortStop) (status : Status) → OnReport written (Err status) → (query round : ℕ) (reason : Reason) → ◌≡◌ {A = Result T Status} (Err status) (Err (statuses.Rejected query round reason)) → ⊥
+line_goes_on written status (port_stops.Failed, is, so) query round reason e = absurd cc
+line_goes_on written status (port_stops.OutOfMemory, is, so) query round reason e = absurd cc
+
+-- nor is a fault
+pub fault_goes_on : {T : Type 0} (fault : SessionFault) (query round : ℕ) (reason : Reason) → ◌≡◌ {A = Result T Status} (Err (status_of_fault fault)) (Err (statuses.Rejected query round reason)) → ⊥
+fault_goes_on faults.PeerFault query round reason e = absurd cc
+fault_goes_on faults.KeepFault query round reason e = absurd cc
+fault_goes_on faults.OutOfMemory query round reason e = absurd cc
+
+-- ---- what is kept of the session
+
+module _ {T G : Type 0} (old new : Sitting) (stand : (stream : List Update) → All (StandsFor old.depth stream) old.left → All (StandsFor new.depth stream) new.left)
+    (asked : Result G Unanswered) (behind_it : remaining_of new ≡ behind (has_failed asked) (remaining_of old)) (faults faulted : ℕ) where
+  -- what came of the query, where the session goes on or the call stops
+  pub asks_on : (r : Result T Status) → OnOk r (has_failed asked ≡ false) → Stops stops_asking (counts 0 0 0 faults 0) (counts 0 0 0 faulted 0) r → AsksOn old new faults faulted r
+  asks_on r well fault = record {
+    stands = stand;
+    version = ap (λ (s : Remaining Query). s.version) behind_it;
+    depth = ap (λ (s : Remaining Query). s.depth) behind_it;
+    live = live r well;
+    fault = fault;
+  }
+    where
+      live : (r : Result T Status) → OnOk r (has_failed asked ≡ false) → OnOk r (new.spent ≡ false)
+      live (Ok x) well = ap (λ (s : Remaining Query). s.spent) behind_it ∙ well
+      live (Err status) well = tt

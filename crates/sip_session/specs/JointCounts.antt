@@ -4,7 +4,7 @@ use Rattle.std.specs.Prelude.{ℕ, ◌<◌, ◌≤◌, List, length, map, All}
 use Rattle.sip_vector.specs.declared.query.Query.{Query}
 use Rattle.sip_vector.specs.declared.update.Update.{Update}
 use Rattle.sip_vector.specs.Answers.{Fits}
-use Rattle.sip_counts.specs.Joint.{Asked, misled}
+use Rattle.sip_counts.specs.Joint.{CountedQuestion, misled}
 use Rattle.sip_counts.specs.Strategies.{Strategy}
 use Rattle.sip_wire.specs.declared.version.Version.{Version}
 use Rattle.sip_verifier.specs.JointClause.{asked_by}
@@ -13,7 +13,7 @@ use Rattle.sip_verifier.specs.Questions.{Question}
 
 -- The queries as those of one count, modulo p. The bytes of a number leave room for those that are
 -- small modulo 2^61 - 1; over a lesser modulus what replies state has to be small for it.
-abbrev pub asked_over : Version → ℕ → ℕ → List Update → List Query → List Asked
+abbrev pub asked_over : Version → ℕ → ℕ → List Update → List Query → List CountedQuestion
 asked_over version p depth stream queries =
     map (λ q. asked_by (λ kind. kind.accepts_small) depth
     (kind_row_over version p depth stream q)) queries

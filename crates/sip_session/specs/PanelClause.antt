@@ -8,7 +8,8 @@ use Rattle.sip_verifier.specs.runs.CauseClause.{CanBeJudged, CauseClause}
 use Rattle.sip_verifier.specs.Statuses.{FaultClause, IsListed}
 use Rattle.sip_session.specs.PanelCounts.{JointCountOnPanel}
 use Rattle.sip_session.specs.PanelEnds.{Ends}
-use Rattle.sip_session.specs.PanelExchanges.{PanelExchange, PanelIsTold, PanelSnapshot, PanelTells, without_links}
+use Rattle.sip_session.specs.PanelExchanges.{PanelExchange, PanelIsTold, PanelSnapshot, PanelTells}
+use Rattle.sip_session.specs.PanelExchanges.{without_links}
 use Rattle.sip_session.specs.PanelHonesty.{AnswersAreOwn, AreDroppedRightly, IsCarried}
 use Rattle.sip_session.specs.Panels.{Attempt, AreAttempts, inquiry_of_panel}
 

@@ -15,7 +15,8 @@ use Rattle.sip_verifier.specs.JointClause.{JointClause}
 use Rattle.sip_verifier.specs.Questions.{Question}
 use Rattle.sip_verifier.specs.Gathering.{legal}
 use Rattle.sip_session.specs.PanelExchanges.{PanelExchange, without_links}
-use Rattle.sip_session.specs.Panels.{Attempt, Outcome, accepted, rejected, inquiry_of_seats, seat_at, seat_blocks, seat_queries}
+use Rattle.sip_session.specs.Panels.{Attempt, Outcome, accepted, rejected, inquiry_of_seats}
+use Rattle.sip_session.specs.Panels.{seat_at, seat_blocks, seat_queries}
 
 -- a seat with this query and block that has no line
 abbrev pub unwritten : ℕ → List Update → Query × List ℕ → Written

@@ -5,7 +5,8 @@
 -- byte that shows the fault, or with the end of the link, and nothing is said to it any more. Once
 -- all queries were answered, each helper that is left hears the farewell. Each attempt has a line:
 -- that of the answer, or that of the helper which was dropped.
-use Rattle.std.specs.Prelude.{◌≡◌, ◌⊎◌, ◌==◌, ◌&&◌, ◌<◌, ℕ, suc, List, [], ◌∷◌, ◌++◌, flat_map, length, slice_index_or, Option, Some, None, IfSome, if◌then◌else◌}
+use Rattle.std.specs.Prelude.{◌≡◌, ◌⊎◌, ◌==◌, ◌&&◌, ◌<◌, ℕ, suc, List, [], ◌∷◌, ◌++◌, flat_map}
+use Rattle.std.specs.Prelude.{length, slice_index_or, Option, Some, None, IfSome, if◌then◌else◌}
 use Rattle.sip_ports.specs.declared.port.TalkEvent.{TalkEvent}
 use Rattle.sip_replies.specs.Replies.{Fault}
 use Rattle.sip_replies.specs.Talks.{IsPrefix, ending}
@@ -21,7 +22,8 @@ use Rattle.sip_verifier.specs.Reports.{dropped, line}
 use Rattle.sip_verifier.specs.Talks.{bye_sent, stream_sent}
 use Rattle.sip_verifier.specs.Tasks.{version_of}
 use Rattle.sip_session.specs.PanelExchanges.{PanelExchange}
-use Rattle.sip_session.specs.Panels.{Attempt, Outcome, Turn, accepted, rejected, are_answered, first_turn, is_left, turn_behind, IsOfTurn}
+use Rattle.sip_session.specs.Panels.{Attempt, Outcome, Turn, accepted, rejected, are_answered}
+use Rattle.sip_session.specs.Panels.{first_turn, is_left, turn_behind, IsOfTurn}
 
 -- ---- lines
 

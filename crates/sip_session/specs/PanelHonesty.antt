@@ -4,7 +4,8 @@
 -- A helper is honest here where the talk of its link is an honest one: by the turns of a helper, up
 -- to where the other side left them, or to the end. Such is the talk of each link to a helper that
 -- tells its state and had heard nothing.
-use Rattle.std.specs.Prelude.{◌≡◌, ◌⊎◌, ◌-◌, ◌<◌, ◌≤◌, ⊤, ℕ, List, [], ◌∷◌, ◌++◌, flat_map, length, slice_index_or, All, Some}
+use Rattle.std.specs.Prelude.{◌≡◌, ◌⊎◌, ◌-◌, ◌<◌, ◌≤◌, ⊤, ℕ, List, [], ◌∷◌, ◌++◌, flat_map, length}
+use Rattle.std.specs.Prelude.{slice_index_or, All, Some}
 use Rattle.sip_duel.specs.Story.{IsHonestTalk}
 use Rattle.sip_helper.specs.KindRows.{not_strict, too_many, want_of_memory}
 use Rattle.sip_replies.specs.Replies.{Fault}

@@ -5,9 +5,10 @@
 -- dropped, and the next helper is asked the same query. Helpers and queries are counted from 1.
 --
 -- Each query has a seat for each helper: with h helpers, query k with helper i has the seat number
--- (k - 1)·h + i, counted from 1. Each seat has its own block of challenges; block n of the seed's is
--- that of seat n. Seats whose turn doesn't come stay unused.
-use Rattle.std.specs.Prelude.{◌≡◌, ◌≤◌, ℕ, suc, ◌+◌, ◌*◌, ◌-◌, ⊤, Bool, nat_le, nat_lt, List, [], ◌∷◌, length, flat_map, replicate, All, Some, None}
+-- (k - 1)·h + i, counted from 1. Each seat has its own block of challenges; block n of the seed's
+-- is that of seat n. Seats whose turn doesn't come stay unused.
+use Rattle.std.specs.Prelude.{◌≡◌, ◌≤◌, ℕ, suc, ◌+◌, ◌*◌, ◌-◌, ⊤, Bool, nat_le, nat_lt, List, []}
+use Rattle.std.specs.Prelude.{◌∷◌, length, flat_map, replicate, All, Some, None}
 use Rattle.std.specs.List.{slice_get}
 use Rattle.sip_replies.specs.Replies.{Fault}
 use Rattle.sip_vector.specs.declared.query.Query.{Query}
@@ -43,7 +44,9 @@ inquiry_of_panel helpers task seed = record {
 -- the same with a query for each seat
 abbrev pub inquiry_of_seats : ℕ → Task → List ℕ → Inquiry
 inquiry_of_seats helpers task seed =
-    record (inquiry_of_panel helpers task seed) { queries = seat_queries helpers task.queries.items }
+    record (inquiry_of_panel helpers task seed) {
+      queries = seat_queries helpers task.queries.items;
+    }
 
 -- the blocks of the seats in order; none where the seed gives no challenges
 abbrev pub seat_blocks : Inquiry → List (List ℕ)

@@ -1,7 +1,8 @@
 //! How many vectors of all challenges of a run a helper can win by. These functions do nothing:
 //! each contract is a fact that holds.
 
-ghost use Rattle.std.specs.Prelude.{◌≡◌, ℕ, ◌*◌, ◌-◌, ◌^◌, ◌<◌, ◌≤◌, true, pos, List, [], length, map, All, IsTrue};
+ghost use Rattle.std.specs.Prelude.{◌≡◌, ℕ, ◌*◌, ◌-◌, ◌^◌, ◌<◌, ◌≤◌, true, pos, List, [], length};
+ghost use Rattle.std.specs.Prelude.{map, All, IsTrue};
 ghost use Rattle.sip_field.specs.Moduli.{m61_modulus};
 ghost use Rattle.sip_field.specs.Prime.{IsPrime};
 ghost use Rattle.sip_vector.specs.declared.query.Query.{Query as AnyQuery};
@@ -79,9 +80,10 @@ pub fn runs_are_counted_jointly()
         × JointClause (inquiry_of task x) x count.lines }
 {}
 
-/// The joint count on a panel. Attempts that were made in turn, each at its own seat, and were judged
-/// by their replies keep to the joint count of all seats: where the line of one has a wrong answer,
-/// the challenges are among the vectors that are counted, whichever helper brought it about.
+/// The joint count on a panel. Attempts that were made in turn, each at its own seat, and were
+/// judged by their replies keep to the joint count of all seats: where the line of one has a wrong
+/// answer, the challenges are among the vectors that are counted, whichever helper brought it
+/// about.
 pub fn panels_are_counted_jointly()
     ensures { (helpers : ℕ) (task : AnyTask) (x : PanelExchange) (attempts : List Attempt)
         → 0 < helpers → CanBeDone task → 1 ≤ task.depth

@@ -23,9 +23,9 @@ pub fn bounds_of_each_kind()
     ensures { bounds (asked_over One 31 2 stream one_of_each) ≡ 18 }
 {}
 
-/// The keys of two queries with the challenges 5 and 6, and 7 and 8, by what a strategy replies that
-/// repeats its key: none and 5, and then 5 and 6, and 5, 6 and 7. Of a query with one reply its
-/// first key alone is compared.
+/// The keys of two queries with the challenges 5 and 6, and 7 and 8, by what a strategy replies
+/// that repeats its key: none and 5, and then 5 and 6, and 5, 6 and 7. Of a query with one reply
+/// its first key alone is compared.
 pub fn keys_by_hand()
     ensures both { RepliesSo (λ v. Some v) [] (two_questions ([] ∷ (5 ∷ []) ∷ [])
         ((5 ∷ 6 ∷ []) ∷ (5 ∷ 6 ∷ 7 ∷ []) ∷ [])) }

@@ -1,6 +1,7 @@
 //! A stream, sent to each helper of a panel.
 
-ghost use Rattle.std.specs.Prelude.{◌≡◌, ◌≢◌, ◌<◌, ◌≤◌, ◌^◌, ◌++◌, ◌∷◌, ℕ, List, [], All, length, map, pos, IfOk, OnOk, IsSome, IsTrue, Err, Some};
+ghost use Rattle.std.specs.Prelude.{◌≡◌, ◌≢◌, ◌<◌, ◌≤◌, ◌^◌, ◌++◌, ◌∷◌, ℕ, List, [], All, length};
+ghost use Rattle.std.specs.Prelude.{map, pos, IfOk, OnOk, IsSome, IsTrue, Err, Some};
 ghost use Rattle.sip_ports.specs.Ports.{Lasts};
 ghost use Rattle.sip_vector.specs.declared.query.Query.{Query as AnyQuery};
 ghost use Rattle.sip_vector.specs.declared.update.Side.{Side as AnySide};

@@ -20,7 +20,8 @@ ghost use Rattle.sip_verifier.specs.Tasks.{CanBeDone};
 ghost use Rattle.sip_session.specs.PanelEnds.{Ends};
 ghost use Rattle.sip_session.specs.PanelExamples.{one_below, three_helpers};
 ghost use Rattle.sip_session.specs.PanelExchanges.{PanelExchange, without_links};
-ghost use Rattle.sip_session.specs.PanelHonesty.{AnswersAreOwn, AreDroppedRightly, IsCarried, IsRight, answer_lines};
+ghost use Rattle.sip_session.specs.PanelHonesty.{AnswersAreOwn, AreDroppedRightly, IsCarried};
+ghost use Rattle.sip_session.specs.PanelHonesty.{IsRight, answer_lines};
 ghost use Rattle.sip_session.specs.Panels.{Attempt, AreAttempts, inquiry_of_panel};
 
 /// Why an honest helper may be dropped, by hand: for want of memory, whatever is asked, but not for
@@ -40,8 +41,8 @@ pub fn answers_by_hand()
         ≡ codes "sub:0:0 none" ++ 10 ∷ codes "sub:0:0 none" ++ 10 ∷ [] }
 {}
 
-/// An honest helper is dropped for want of memory, or for a query whose answer has more entries than
-/// may be sent, or for heavy hitters of a side with a negative entry; for no other reason.
+/// An honest helper is dropped for want of memory, or for a query whose answer has more entries
+/// than may be sent, or for heavy hitters of a side with a negative entry; for no other reason.
 pub fn honest_helpers_are_dropped_rightly()
     ensures { (helpers : ℕ) (task : AnyTask) (x : PanelExchange) (attempts : List Attempt)
         (status : AnyStatus)

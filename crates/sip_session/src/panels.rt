@@ -1,6 +1,7 @@
 //! A run over several helpers.
 
-ghost use Rattle.std.specs.Prelude.{◌≡◌, ◌≢◌, ◌*◌, ◌<◌, ◌≤◌, ℕ, List, [], All, length, map, false, None, Some, Ok, Err, IfErr, IfOk, IsSome, MatchResult};
+ghost use Rattle.std.specs.Prelude.{◌≡◌, ◌≢◌, ◌*◌, ◌<◌, ◌≤◌, ℕ, List, [], All, length, map, false};
+ghost use Rattle.std.specs.Prelude.{None, Some, Ok, Err, IfErr, IfOk, IsSome, MatchResult};
 ghost use Rattle.sip_ports.specs.Ports.{Lasts};
 ghost use Rattle.sip_wire.specs.Table.{most_queries};
 ghost use Rattle.sip_duel.specs.Story.{IsHonestTalk};
@@ -16,14 +17,14 @@ ghost use Rattle.sip_session.specs.PanelClause.{PanelRunClause};
 ghost use Rattle.sip_session.specs.PanelExchanges.{panel_snapshot};
 ghost use Rattle.sip_session.specs.Panels.{seat_queries};
 
-use crate::asking::ask_all;
 use crate::farewells::let_all_go;
 use crate::hearing::{follow_all, say_bye};
+use crate::panel_asking::ask_all;
 use arrayvec::ArrayVec;
 use sip_duel::HelperLink;
 use sip_ports::{Sink, Source};
 use sip_vector::Depth;
-use sip_verifier::{Port, Seats, Session, Status, Task, draw, on_link, open};
+use sip_verifier::{Port, Seats, Session, Status, Task, draw, on_link, open_session};
 use std::alloc::Global;
 
 /// The task whose queries are those of the seats: each query once for each helper.
@@ -131,14 +132,14 @@ fn begin<A: Source, B: Source>(
     prove!(levels <= Depth::MOST);
     let mut gathered = Err(Status::SeedSpent);
     gather_all(wide, first, second, links, &mut gathered)?;
-    match open(alloc, wide.version(), &mut gathered) {
+    match open_session(alloc, wide.version(), &mut gathered) {
         Ok(session) => Ok(session),
         Err(status) => Err(by_query(status, links.len() as u8)),
     }
 }
 
 /// All that a panel does up to its first stop. Some helpers may be left then.
-fn steps<A: Source, B: Source, K: Sink>(
+fn panel_steps<A: Source, B: Source, K: Sink>(
     alloc: Global,
     task: &Task,
     first: &mut A,
@@ -204,7 +205,7 @@ fn run<A: Source, B: Source, K: Sink>(
     ensures second { Lasts B.faults B.wants B.is_sure second.old second.new }
     ensures report { Lasts K.faults K.wants K.is_sure report.old report.new }
 {
-    match steps(alloc, task, first, second, links, report) {
+    match panel_steps(alloc, task, first, second, links, report) {
         Ok(()) => Status::Accepted,
         Err(status) => status,
     }

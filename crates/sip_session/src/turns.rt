@@ -5,7 +5,8 @@ ghost use Rattle.std.specs.Prelude.{◌≡◌, ◌++◌, [], ◌∷◌, codes};
 ghost use Rattle.sip_vector.specs.declared.query.Query.TheVariants.{Inner, Sub};
 ghost use Rattle.sip_session.specs.PanelEnds.{lines};
 ghost use Rattle.sip_session.specs.PanelExamples.{three_helpers};
-ghost use Rattle.sip_session.specs.Panels.{AreInTurn, first_turn, seat_at, seat_queries, turn_behind};
+ghost use Rattle.sip_session.specs.Panels.{AreInTurn, first_turn, seat_at, seat_queries};
+ghost use Rattle.sip_session.specs.Panels.{turn_behind};
 
 /// Of three helpers the second one has the fifth seat at the second query, which is number 4 from 0
 /// on. Two queries of two helpers have four seats.
@@ -15,8 +16,8 @@ pub fn seats_by_hand()
         ≡ Sub 0 0 ∷ Sub 0 0 ∷ Inner ∷ Inner ∷ [] }
 {}
 
-/// Three helpers and two queries: two helpers are dropped, and then the third one would be asked the
-/// third query. Each attempt has its line.
+/// Three helpers and two queries: two helpers are dropped, and then the third one would be asked
+/// the third query. Each attempt has its line.
 pub fn turns_by_hand()
     ensures turns { AreInTurn first_turn three_helpers }
     ensures behind { turn_behind first_turn three_helpers ≡ record { helper = 3; number = 3 } }

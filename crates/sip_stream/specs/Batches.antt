@@ -16,7 +16,8 @@ pub record IsClean (depth : ℕ) (t : Batch) : Type 0 where
 abbrev pub most_counted : ℕ
 most_counted = 4294967296
 
--- no more than so many records were counted, so that the weight of both sides is a sum that did not wrap where no size is too much
+-- no more than so many records were counted, so that the weight of both sides is a sum that did not
+-- wrap where no size is too much
 abbrev pub IsFew : ℕ → Batch → Type 0
 IsFew n t = t.sizes ≤ most_weight → t.total ≤ (n + 1) * (most_weight + 1)
 
@@ -40,8 +41,10 @@ pub record TakesOne (r : Reading) (old new : Batch) (u : Update) : Type 0 where
   pub after : (before : List Update) → IsAfter (reader_of r old) before
       → IsAfter (reader_of r new) (before ++ u ∷ [])
 
--- So many records lie in front of some bytes, whose items have so many bytes, and their updates stand in front in a block: they are
--- legal where their batch is clean.
-pub record HaveCome (r : Reading) (width : ℕ) (bytes : List ℕ) (t : Batch) (count : ℕ) (block : List Update) : Type 0 where
+-- So many records lie in front of some bytes, whose items have so many bytes, and their updates
+-- stand in front in a block: they are legal where their batch is clean.
+pub record HaveCome (r : Reading) (width : ℕ) (bytes : List ℕ) (t : Batch) (count : ℕ)
+    (block : List Update) : Type 0 where
   pub few : IsFew count t
-  pub took : IsClean r.depth t → IsLight t × HasRead r (reader_of r t) (take (count * record_size width) bytes) (take count block)
+  pub took : IsClean r.depth t → IsLight t
+      × HasRead r (reader_of r t) (take (count * record_size width) bytes) (take count block)

@@ -6,7 +6,8 @@ use Rattle.sip_stream.specs.declared.made.MadeSource.{MadeSource}
 -- the bytes to come: the rest of the records that were made, and those after them
 abbrev pub made_left : MadeSource → List ℕ
 made_left source =
-    drop source.at (take source.end source.block) ++ made_bytes source.state source.more source.depth
+    drop source.at (take source.end source.block)
+    ++ made_bytes source.state source.more source.depth
 
 -- the bytes to come that are held: the rest of the records that were made
 abbrev pub made_ahead : MadeSource → List ℕ

@@ -1,7 +1,8 @@
 -- The legal records that bytes begin with, in each form. A record of bytes is the side in one, the
 -- item, and the delta in eight, big endian, the delta in two's complement. A record in text is a
 -- line.
-use Rattle.std.specs.Prelude.{ℕ, ◌+◌, ◌^◌, ◌==◌, nat_le, nat_lt, pos, List, [], ◌∷◌, ◌++◌, length, drop, slice_index, Option, Some, None, option_and_then, if◌then◌else◌}
+use Rattle.std.specs.Prelude.{ℕ, ◌+◌, ◌^◌, ◌==◌, nat_le, nat_lt, pos, List, [], ◌∷◌, ◌++◌, length}
+use Rattle.std.specs.Prelude.{drop, slice_index, Option, Some, None, option_and_then, if◌then◌else◌}
 use Rattle.std.specs.Int.{w64, cast_signed}
 use Rattle.byteorder.specs.Endian.{big_number}
 use Rattle.sip_vector.specs.declared.update.Side.TheVariants.{First, Second}
@@ -11,7 +12,8 @@ use Rattle.sip_vector.specs.Pieces.{cut}
 use Rattle.sip_vector.specs.Streams.{weight, most_weight}
 use Rattle.sip_stream.specs.declared.form.Form.{Form}
 use Rattle.sip_stream.specs.declared.why.Why.{Why}
-use Rattle.sip_stream.specs.declared.why.Why.TheVariants.{Truncated, BadLine, BadSide, BadItem, ZeroDelta, TooHeavy}
+use Rattle.sip_stream.specs.declared.why.Why.TheVariants.{Truncated, BadLine, BadSide, BadItem}
+use Rattle.sip_stream.specs.declared.why.Why.TheVariants.{ZeroDelta, TooHeavy}
 use Rattle.sip_stream.specs.declared.numbers.Numbers.{Numbers}
 use Rattle.sip_stream.specs.Layouts.{Layout, of_bytes, of_line, layout_of, record_size}
 use Rattle.sip_stream.specs.Lines.{numbers_at, parts_at, lines_from, most_line}

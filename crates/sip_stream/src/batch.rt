@@ -46,7 +46,8 @@ impl Batch {
         self.sizes |= size.wrapping_sub(1);
     }
 
-    /// Whether each record is legal after those before it, by a test that asks both sides together to be light as one.
+    /// Whether each record is legal after those before it, by a test that asks both sides together
+    /// to be light as one.
     pub(crate) fn is_clean(&self, depth: Depth) -> bool
         ensures { IsTrue result → IsClean depth self.now }
     {

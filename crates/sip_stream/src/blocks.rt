@@ -1,6 +1,7 @@
 //! Records of a stream by the block: those that lie whole at the front of what a source holds.
 
-ghost use Rattle.std.specs.Prelude.{◌≡◌, ◌<◌, ◌≤◌, ◌+◌, ◌*◌, ◌++◌, ℕ, List, None, IsSome, IfSome, IfNone, length, take};
+ghost use Rattle.std.specs.Prelude.{◌≡◌, ◌<◌, ◌≤◌, ◌+◌, ◌*◌, ◌++◌, ℕ, List, None, IsSome, IfSome};
+ghost use Rattle.std.specs.Prelude.{IfNone, length, take};
 ghost use Rattle.std.specs.Io.KnownBytes.{Consumes};
 ghost use Rattle.sip_ports.specs.Ports.{Lasts};
 ghost use Rattle.sip_stream.specs.Layouts.{layout_of, of_bytes, of_line, record_size};
@@ -36,7 +37,8 @@ fn write_over(place: &mut Update, update: &Update)
 }
 
 impl Reader {
-    // Takes the legal records of an item of so many bytes that lie whole at the front of the bytes, as far as there is room for them.
+    // Takes the legal records of an item of so many bytes that lie whole at the front of the bytes,
+    // as far as there is room for them.
     fn take_records<const WIDTH: usize>(&mut self, bytes: &[u8], block: &mut [Update]) -> Taken
         requires some { 1 ≤ WIDTH }
         requires most { WIDTH ≤ 8 }
@@ -70,8 +72,8 @@ impl Reader {
         }
     }
 
-    // Takes the record behind so many that were taken, which is tested together with them later. Only its side is tested here, so that
-    // it is written as it was read.
+    // Takes the record behind so many that were taken, which is tested together with them later.
+    // Only its side is tested here, so that it is written as it was read.
     #[inline(always)]
     fn take_next<const WIDTH: usize>(
         &self,
@@ -87,7 +89,8 @@ impl Reader {
         requires held { count * record_size WIDTH + record_size WIDTH ≤ length bytes.now }
         requires room { count < length block.old }
         requires came { HaveCome self.now WIDTH bytes.now batch.old count block.old }
-        ensures came { IfSome result (λ _. HaveCome self.now WIDTH bytes.now batch.new (count + 1) block.new) }
+        ensures came { IfSome result
+            (λ _. HaveCome self.now WIDTH bytes.now batch.new (count + 1) block.new) }
         ensures len { length block.new ≡ length block.old }
     {
         let size = size_of(WIDTH);
@@ -111,8 +114,8 @@ impl Reader {
         requires most { WIDTH ≤ 8 }
         requires layout { layout_of self.old.form ≡ of_bytes WIDTH }
         ensures within { IfSome result (λ taken. taken.bytes ≤ length bytes.now) }
-        ensures took { IfSome result (λ taken. HasRead self.old self.new (take taken.bytes bytes.now)
-            (take taken.records block.new)) }
+        ensures took { IfSome result (λ taken. HasRead self.old self.new
+            (take taken.bytes bytes.now) (take taken.records block.new)) }
         ensures few { IfSome result (λ taken. taken.records ≤ length block.new) }
         ensures same { IfNone result (self.new ≡ self.old) }
         ensures len { length block.new ≡ length block.old }
@@ -156,7 +159,8 @@ impl Reader {
         }
     }
 
-    // Takes the legal lines that lie whole at the front of the bytes, as far as there is room for them.
+    // Takes the legal lines that lie whole at the front of the bytes, as far as there is room for
+    // them.
     fn take_lines(&mut self, bytes: &[u8], block: &mut [Update]) -> Taken
         requires layout { layout_of self.old.form ≡ of_line }
         ensures within { result.bytes ≤ length bytes.now }
@@ -190,7 +194,8 @@ impl Reader {
         }
     }
 
-    // Takes the legal records that lie whole at the front of the bytes, as far as there is room for them.
+    // Takes the legal records that lie whole at the front of the bytes, as far as there is room for
+    // them.
     fn take_whole(&mut self, bytes: &[u8], block: &mut [Update]) -> Taken
         ensures within { result.bytes ≤ length bytes.now }
         ensures took { HasRead self.old self.new (take result.bytes bytes.now)
@@ -205,8 +210,9 @@ impl Reader {
         }
     }
 
-    /// Writes the legal records that the source holds whole to the front of a block, in order, until the block is full or the next
-    /// one is not legal or not held whole, and says how many they are.
+    /// Writes the legal records that the source holds whole to the front of a block, in order,
+    /// until the block is full or the next one is not legal or not held whole, and says how many
+    /// they are.
     ///
     /// It calls for no byte, so that it never stops. What it leaves is for [`next`](Reader::next).
     pub fn read_held<S: Source>(&mut self, source: &mut S, block: &mut [Update]) -> usize

@@ -1,6 +1,7 @@
 //! A stream, copied record by record from one form to another.
 
-ghost use Rattle.std.specs.Prelude.{◌≡◌, ◌⊎◌, ◌<◌, ◌≤◌, ◌+◌, ◌^◌, ◌++◌, [], ℕ, List, Some, None, IsSome, MatchResult, OnOk, Err, Ok, take};
+ghost use Rattle.std.specs.Prelude.{◌≡◌, ◌⊎◌, ◌<◌, ◌≤◌, ◌+◌, ◌^◌, ◌++◌, [], ℕ, List, Some, None};
+ghost use Rattle.std.specs.Prelude.{IsSome, MatchResult, OnOk, Err, Ok, take};
 ghost use Rattle.std.specs.Io.KnownBytes.{Consumes};
 ghost use Rattle.arrayvec.specs.ArrayVec.{array_vec_len};
 ghost use Rattle.sip_ports.specs.Ports.{GoesOn, HasCause, Lasts, Rose, outs};
@@ -86,8 +87,8 @@ fn make_room<K: Sink>(sink: &mut K, gathered: &mut ArrayVec<u8, BLOCK>) -> Resul
     Ok(())
 }
 
-// Gathers legal records that the source holds whole, as far as there is room for them, as they lie: those that
-// are to be written in the form that they have. Others it leaves alone.
+// Gathers legal records that the source holds whole, as far as there is room for them, as they lie:
+// those that are to be written in the form that they have. Others it leaves alone.
 fn gather_as_held<A: Source>(
     to: Form,
     reader: &mut Reader,
@@ -108,7 +109,8 @@ fn gather_as_held<A: Source>(
     source.skip(used);
 }
 
-// Gathers legal records that the source holds whole, as far as there is room for them, in the spelling of a form.
+// Gathers legal records that the source holds whole, as far as there is room for them, in the
+// spelling of a form.
 fn gather_spelled<A: Source>(
     to: Form,
     reader: &mut Reader,
@@ -127,7 +129,8 @@ fn gather_spelled<A: Source>(
     source.skip(used);
 }
 
-// Gathers legal records that the source holds whole, as far as there is room for them. It may leave any of them alone.
+// Gathers legal records that the source holds whole, as far as there is room for them. It may leave
+// any of them alone.
 fn gather_held<A: Source>(
     to: Form,
     reader: &mut Reader,
@@ -149,7 +152,8 @@ fn gather_held<A: Source>(
     }
 }
 
-// Copies until the stream ends, is read no further, or the sink stops. What is gathered then is still to be written.
+// Copies until the stream ends, is read no further, or the sink stops. What is gathered then is
+// still to be written.
 fn copy_on<A: Source, K: Sink>(
     depth: Depth,
     from: Form,
@@ -184,14 +188,15 @@ fn copy_on<A: Source, K: Sink>(
     }
 }
 
-/// Copies the legal records of a stream, read in one form and written in another, in blocks of 32,768 bytes. It takes no memory.
-/// Where it writes `Form::Binary`, the depth is at most `Depth::MOST_NARROW`.
+/// Copies the legal records of a stream, read in one form and written in another, in blocks of
+/// 32,768 bytes. It takes no memory. Where it writes `Form::Binary`, the depth is at most
+/// `Depth::MOST_NARROW`.
 ///
 /// # Errors
 ///
-/// `Bad` exactly where a record is not legal: those before it are written then. `ReadFault` and `WriteFault` only where the
-/// count of faults of the source, of the sink, rose; `OutOfMemory` only where the count of wants of one of them rose. A front
-/// of the records is written then.
+/// `Bad` exactly where a record is not legal: those before it are written then. `ReadFault` and
+/// `WriteFault` only where the count of faults of the source, of the sink, rose; `OutOfMemory` only
+/// where the count of wants of one of them rose. A front of the records is written then.
 pub fn copy<A: Source, K: Sink>(
     depth: Depth,
     from: Form,

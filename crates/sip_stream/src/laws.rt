@@ -3,11 +3,13 @@
 pub mod made;
 pub mod spellings;
 
-ghost use Rattle.std.specs.Prelude.{◌≡◌, ◌<◌, ◌^◌, ℕ, List, [], ◌∷◌, ◌++◌, Some, None, codes, decimal, pos, replicate, take};
+ghost use Rattle.std.specs.Prelude.{◌≡◌, ◌<◌, ◌^◌, ℕ, List, [], ◌∷◌, ◌++◌, Some, None, codes};
+ghost use Rattle.std.specs.Prelude.{decimal, pos, replicate, take};
 ghost use Rattle.sip_vector.specs.Examples.{stream};
 ghost use Rattle.sip_vector.specs.Streams.{IsLegal};
 ghost use Rattle.sip_vector.specs.declared.update.Side.TheVariants as sides;
-ghost use Rattle.sip_stream.specs.Examples.{bytes_of_three, heaviest, line, line_fault_of, lines_of_three, wide_bytes_of_one};
+ghost use Rattle.sip_stream.specs.Examples.{bytes_of_three, heaviest, line, line_fault_of};
+ghost use Rattle.sip_stream.specs.Examples.{lines_of_three, wide_bytes_of_one};
 ghost use Rattle.sip_stream.specs.Lines.{decimal_at};
 ghost use Rattle.sip_stream.specs.Records.{records, records_from};
 ghost use Rattle.sip_vector.specs.declared.update.Update.{Update};
@@ -20,7 +22,8 @@ pub fn records_of_three()
     ensures { records 2 Binary bytes_of_three ≡ record { legal = stream; fault = None } }
 {}
 
-/// The bytes of one wide record, to its end: the same bytes are no record at a lower depth, or with one byte less.
+/// The bytes of one wide record, to its end: the same bytes are no record at a lower depth, or with
+/// one byte less.
 pub fn wide_records_of_one()
     ensures legal { records 48 Wide wide_bytes_of_one
         ≡ record {
@@ -59,7 +62,8 @@ pub fn records_with_a_fault()
     ensures delta { (records 2 Binary (replicate 13 0)).fault ≡ Some whys.ZeroDelta }
 {}
 
-/// One fault each in text: side 2, also far above, item 4 at depth 2, delta 0, and a weight too much.
+/// One fault each in text: side 2, also far above, item 4 at depth 2, delta 0, and a weight too
+/// much.
 pub fn lines_with_a_fault()
     ensures side { line_fault_of (codes "2 0 5") ≡ Some whys.BadSide }
     ensures any_side { line_fault_of (codes "123456789012345678901234567890 0 5")
@@ -113,8 +117,9 @@ pub fn decimals_have_one_spelling()
     ensures written { (n : ℕ) → n < 2 ^ 64 → decimal_at (decimal n) ≡ Some n }
 {}
 
-/// Where a reader met the end after these legal records, they are all. Each legal record before it left the records of
-/// the whole stream as they were, so a reader that is called to its end gives these.
+/// Where a reader met the end after these legal records, they are all. Each legal record before it
+/// left the records of the whole stream as they were, so a reader that is called to its end gives
+/// these.
 #[tactic(auto, using(crate::proofs::RecordsRead::records_end))]
 pub fn records_end()
     ensures { (depth : ℕ) (form : Form) (before : List Update)

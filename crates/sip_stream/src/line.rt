@@ -16,7 +16,8 @@ use sip_vector::Update;
 /// Room for the line of any update.
 pub(crate) const LINE_ROOM: usize = 46;
 
-/// Adds the line of an update at the end: at most 39 bytes, where its item is below 2^48. There is room for it.
+/// Adds the line of an update at the end: at most 39 bytes, where its item is below 2^48. There is
+/// room for it.
 pub(crate) fn put_line_bytes<const ROOM: usize>(update: &Update, gathered: &mut ArrayVec<u8, ROOM>)
     requires { array_vec_len gathered.old + LINE_ROOM ≤ ROOM }
     ensures { gathered.new.items ≡ gathered.old.items ++ line_bytes update.now }
@@ -38,7 +39,8 @@ fn line_of(update: &Update) -> ArrayVec<u8, LINE_ROOM>
     line
 }
 
-/// Writes an update as one line of text, `SIDE ITEM DELTA` and a line feed, at once and without memory.
+/// Writes an update as one line of text, `SIDE ITEM DELTA` and a line feed, at once and without
+/// memory.
 ///
 /// # Errors
 ///

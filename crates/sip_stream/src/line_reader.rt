@@ -123,8 +123,8 @@ pub(crate) fn line_in_front(bytes: &[u8]) -> Option<(Result<Update, Why>, usize)
     Some((update_of(line), line.len() + 1))
 }
 
-/// What the next line says, or why it says no update; `None` at the end. One that the source holds with its line feed
-/// is read where it lies, unless it is too long.
+/// What the next line says, or why it says no update; `None` at the end. One that the source holds
+/// with its line feed is read where it lies, unless it is too long.
 pub(crate) fn next_line<S: Source>(source: &mut S) -> Result<Option<Result<Update, Why>>, PortStop>
     ensures reads { (bytes : List ℕ) → S.left source.old ≡ Some bytes
         → ReadsPiece of_line bytes (S.left source.new) result }

@@ -11,9 +11,10 @@ use sip_vector::Depth;
 /// How many bytes are made at once.
 const BLOCK: usize = 4096;
 
-/// A source of the records that a generator makes from a number: about a quarter of them are of the items 0 and 1, the
-/// others of items from everywhere. They have the form `Form::made` of the depth. It tells the bytes to come, never fails
-/// and takes no memory. A read fills the buffer as far as there are bytes. After a call it holds records: they are made by the block.
+/// A source of the records that a generator makes from a number: about a quarter of them are of the
+/// items 0 and 1, the others of items from everywhere. They have the form `Form::made` of the
+/// depth. It tells the bytes to come, never fails and takes no memory. A read fills the buffer as
+/// far as there are bytes. After a call it holds records: they are made by the block.
 #[derive(Drop)]
 pub struct MadeSource {
     depth: Depth,
@@ -41,7 +42,8 @@ impl MadeSource {
         count <= Self::MOST
     }
 
-    /// The first records, so many, that the generator makes from the number, with items below 2^depth.
+    /// The first records, so many, that the generator makes from the number, with items below
+    /// 2^depth.
     pub fn new(number: u64, count: u64, depth: Depth) -> MadeSource
         requires { count ≤ most_made }
         ensures { made_left result ≡ made_bytes number count depth }
@@ -56,8 +58,8 @@ impl MadeSource {
         }
     }
 
-    // Makes the next records, as many as there is room for, whose item has so many bytes, over those
-    // that were made before and were read.
+    // Makes the next records, as many as there is room for, whose item has so many bytes, over
+    // those that were made before and were read.
     fn make<const WIDTH: usize>(&mut self)
         requires some { 1 ≤ WIDTH }
         requires most { WIDTH ≤ 8 }

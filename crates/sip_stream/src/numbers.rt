@@ -1,7 +1,9 @@
 //! The numbers of a line of text.
 
-ghost use Rattle.std.specs.Prelude.{◌≡◌, ◌≢◌, ◌≤◌, ◌<◌, ◌+◌, ◌^◌, ◌++◌, ◌∷◌, ℕ, None, length, option_map, IfSome, MatchOption, decimal};
-ghost use Rattle.sip_stream.specs.Lines.{decimal_at, delta_at, item_at, numbers_at, parts_at, above_zero, below_zero};
+ghost use Rattle.std.specs.Prelude.{◌≡◌, ◌≢◌, ◌≤◌, ◌<◌, ◌+◌, ◌^◌, ◌++◌, ◌∷◌, ℕ, None, length};
+ghost use Rattle.std.specs.Prelude.{option_map, IfSome, MatchOption, decimal};
+ghost use Rattle.sip_stream.specs.Lines.{decimal_at, delta_at, item_at, numbers_at, parts_at};
+ghost use Rattle.sip_stream.specs.Lines.{above_zero, below_zero};
 
 /// The most digits of a number below 2^64.
 const LONGEST: usize = 20;
@@ -34,7 +36,8 @@ pub(crate) fn split_at(text: &[u8], mark: u8) -> Option<(&[u8], &[u8])>
     None
 }
 
-/// The number that at most 19 decimal digits write, without a leading zero but for 0 itself: it fits a word.
+/// The number that at most 19 decimal digits write, without a leading zero but for 0 itself: it
+/// fits a word.
 fn few_digits(text: &[u8]) -> Option<u64>
     requires { length text.now ≤ 19 }
     ensures { result ≡ decimal_at text.now }
@@ -52,7 +55,8 @@ fn few_digits(text: &[u8]) -> Option<u64>
     Some(number)
 }
 
-/// The number that decimal digits write, without a leading zero but for 0 itself. It has at most 38 digits, so it fits.
+/// The number that decimal digits write, without a leading zero but for 0 itself. It has at most 38
+/// digits, so it fits.
 fn digits(text: &[u8]) -> Option<u128>
     requires { length text.now ≤ 38 }
     ensures { result ≡ decimal_at text.now }
@@ -74,7 +78,8 @@ fn digits(text: &[u8]) -> Option<u128>
     Some(number)
 }
 
-/// The number below 2^64 that a text writes in decimal digits, without a sign and without a leading zero.
+/// The number below 2^64 that a text writes in decimal digits, without a sign and without a leading
+/// zero.
 pub fn read_decimal(text: &[u8]) -> Option<u64>
     ensures { MatchOption result
         ((n : ℕ) → n < 2 ^ 64 → text.now ≢ decimal n)

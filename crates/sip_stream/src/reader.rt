@@ -1,6 +1,8 @@
 //! A stream, read one record at a time.
 
-ghost use Rattle.std.specs.Prelude.{◌≡◌, ◌≤◌, ◌<◌, ◌+◌, ◌++◌, ◌∷◌, ◌↔◌, [], ℕ, List, None, Some, IsNone, IsSome, IsTrue, IfOk, IfSome, IfNone, OnOk, Result, Err, Ok, false, true, nat_abs, length, take};
+ghost use Rattle.std.specs.Prelude.{◌≡◌, ◌≤◌, ◌<◌, ◌+◌, ◌++◌, ◌∷◌, ◌↔◌, [], ℕ, List, None, Some};
+ghost use Rattle.std.specs.Prelude.{IsNone, IsSome, IsTrue, IfOk, IfSome, IfNone, OnOk, Result};
+ghost use Rattle.std.specs.Prelude.{Err, Ok, false, true, nat_abs, length, take};
 ghost use Rattle.std.specs.Result.{is_err};
 ghost use Rattle.sip_ports.specs.Ports.{HasCause, Lasts, Rose};
 ghost use Rattle.sip_vector.specs.declared.update.Update.{Update};
@@ -9,7 +11,8 @@ ghost use Rattle.sip_vector.specs.Tallies.{IsSound, tally};
 ghost use Rattle.sip_stream.specs.declared.why.Why.{Why};
 ghost use Rattle.sip_stream.specs.Layouts.{deepest_in, layout_of, of_bytes, of_line};
 ghost use Rattle.sip_stream.specs.Pieces.{ReadsPiece};
-ghost use Rattle.sip_stream.specs.Reading.{IsAfter, HasRead, HasRoom, GoesOnAfter, Reads, Tells, behind, came, room, so_far, unread, weight_of};
+ghost use Rattle.sip_stream.specs.Reading.{IsAfter, HasRead, HasRoom, GoesOnAfter, Reads, Tells};
+ghost use Rattle.sip_stream.specs.Reading.{behind, came, room, so_far, unread, weight_of};
 ghost use Rattle.sip_stream.specs.Records.{update_fault};
 ghost use Rattle.sip_stream.specs.Spellings.{all_spelled};
 ghost use Rattle.sip_stream.specs.Batches.{IsLight, reader_of};
@@ -194,8 +197,9 @@ impl Reader {
         None
     }
 
-    /// Whether the update is legal after those so far. It asks at once what `fault` asks in turn: a branch costs more than the
-    /// tests, and where the branches of a loop fall in memory decides by how much.
+    /// Whether the update is legal after those so far. It asks at once what `fault` asks in turn: a
+    /// branch costs more than the tests, and where the branches of a loop fall in memory decides by
+    /// how much.
     pub(crate) fn has_room(&self, update: &Update) -> bool
         ensures { IsTrue result ↔ HasRoom self.now update.now }
     {
@@ -273,9 +277,9 @@ impl Reader {
     ///
     /// # Errors
     ///
-    /// `Bad` exactly where the next record is not legal after those before, with its number and the first test that
-    /// it fails; `ReadFault` only where the source's count of faults rose; `OutOfMemory` only where its count of wants
-    /// did. After an error the reader is spent.
+    /// `Bad` exactly where the next record is not legal after those before, with its number and the
+    /// first test that it fails; `ReadFault` only where the source's count of faults rose;
+    /// `OutOfMemory` only where its count of wants did. After an error the reader is spent.
     pub fn next<S: Source>(&mut self, source: &mut S) -> Result<Option<Update>, StreamFault>
         requires { self.old.is_spent ≡ false }
         ensures reads { (before : List Update) (bytes : List ℕ) → IsAfter self.old before
@@ -326,8 +330,9 @@ impl Reader {
         })
     }
 
-    // Gathers the legal records of an item of so many bytes that lie whole at the front of the bytes, in the spelling of another
-    // form, as far as there is room for them, and answers how many bytes they had.
+    // Gathers the legal records of an item of so many bytes that lie whole at the front of the
+    // bytes, in the spelling of another form, as far as there is room for them, and answers how
+    // many bytes they had.
     fn spell_records<const WIDTH: usize, const ROOM: usize>(
         &mut self,
         to: Form,
@@ -361,8 +366,9 @@ impl Reader {
         used
     }
 
-    /// Gathers legal records that lie whole at the front of the bytes, in the spelling of the form `to`, as far as there is room
-    /// for them, and answers how many bytes they had. It may leave any of them to [`next`](Reader::next).
+    /// Gathers legal records that lie whole at the front of the bytes, in the spelling of the form
+    /// `to`, as far as there is room for them, and answers how many bytes they had. It may leave
+    /// any of them to [`next`](Reader::next).
     pub(crate) fn spell<const ROOM: usize>(
         &mut self,
         to: Form,
@@ -409,8 +415,9 @@ impl Reader {
         used
     }
 
-    // Passes over all records of an item of so many bytes that lie whole at the front of the bytes, and answers how many bytes they
-    // have; `None` where one of them is not legal. They are tested at once: a test of each costs more than the rest.
+    // Passes over all records of an item of so many bytes that lie whole at the front of the bytes,
+    // and answers how many bytes they have; `None` where one of them is not legal. They are tested
+    // at once: a test of each costs more than the rest.
     fn pass_all<const WIDTH: usize>(&mut self, bytes: &[u8]) -> Option<usize>
         requires some { 1 ≤ WIDTH }
         requires widest { WIDTH ≤ 8 }
@@ -441,8 +448,8 @@ impl Reader {
         Some(used)
     }
 
-    // Passes over the legal records that lie whole at the front of the bytes: over all at once, or one by one where one of them is
-    // not legal.
+    // Passes over the legal records that lie whole at the front of the bytes: over all at once, or
+    // one by one where one of them is not legal.
     fn pass_whole<const WIDTH: usize>(&mut self, bytes: &[u8]) -> usize
         requires some { 1 ≤ WIDTH }
         requires widest { WIDTH ≤ 8 }
@@ -482,8 +489,8 @@ impl Reader {
     }
 
     /// Passes over legal records that lie whole at the front of the bytes, and answers how many
-    /// bytes they have: where what lies there is how they are spelled in the form `to`. It may leave
-    /// any of them to [`next`](Reader::next).
+    /// bytes they have: where what lies there is how they are spelled in the form `to`. It may
+    /// leave any of them to [`next`](Reader::next).
     pub(crate) fn pass(&mut self, to: Form, bytes: &[u8]) -> usize
         ensures within { result ≤ length bytes.now }
         ensures passed { (us : List Update) × (all_spelled to us ≡ take result bytes.now)

@@ -41,8 +41,9 @@ pub(crate) fn number_of(side: Side) -> u8
     }
 }
 
-/// Adds the record of an update, whose item has so many bytes, at the end. There is room for it. The bytes are written where they
-/// are to lie, once: what is written in parts and read whole right after waits for these parts.
+/// Adds the record of an update, whose item has so many bytes, at the end. There is room for it.
+/// The bytes are written where they are to lie, once: what is written in parts and read whole right
+/// after waits for these parts.
 pub(crate) fn put_bytes<const WIDTH: usize, const ROOM: usize>(
     update: &Update,
     gathered: &mut ArrayVec<u8, ROOM>,

@@ -74,8 +74,8 @@ fn read_record<const WIDTH: usize, S: Source>(
     Ok(Some(said_by::<WIDTH>(bytes)))
 }
 
-/// What the next record says, whose item has so many bytes, or why it says no update; `None` at the end. One that the
-/// source holds is read where it lies.
+/// What the next record says, whose item has so many bytes, or why it says no update; `None` at the
+/// end. One that the source holds is read where it lies.
 pub(crate) fn next_record<const WIDTH: usize, S: Source>(
     source: &mut S,
 ) -> Result<Option<Result<Update, Why>>, PortStop>

@@ -1,4 +1,5 @@
-//! A line that lies in front of bytes, read in one pass: one that is how an update is spelled, with few digits.
+//! A line that lies in front of bytes, read in one pass: one that is how an update is spelled, with
+//! few digits.
 
 ghost use Rattle.std.specs.Prelude.{◌≡◌, ◌<◌, ◌≤◌, ◌^◌, Ok, IfSome, length, take, nat_abs, decimal};
 ghost use Rattle.std.specs.Fmt.{signed_decimal};
@@ -10,7 +11,8 @@ use sip_vector::Update;
 /// The most digits of a number that is read here.
 const MOST_DIGITS: usize = 16;
 
-/// The number whose digits stand in front of a text, and how many they are: at most 16, and another byte follows them.
+/// The number whose digits stand in front of a text, and how many they are: at most 16, and another
+/// byte follows them.
 fn number_in_front(text: &[u8]) -> Option<(u64, usize)>
     ensures spelled { IfSome result (λ n. take n.1 text.now ≡ decimal n.0) }
     ensures small { IfSome result (λ n. n.0 < 10 ^ 16) }
@@ -50,8 +52,8 @@ fn signed_in_front(text: &[u8]) -> Option<(i64, usize)>
     Some((-1 - (size - 1) as i64, count + 1))
 }
 
-/// The update whose line lies in front of the bytes, and how many bytes the line has with its line feed. It may leave any line
-/// alone: one whose numbers have more than 16 digits it does leave.
+/// The update whose line lies in front of the bytes, and how many bytes the line has with its line
+/// feed. It may leave any line alone: one whose numbers have more than 16 digits it does leave.
 ///
 /// Each byte is looked at once, and each number ends by one branch.
 pub(crate) fn spelled_in_front(bytes: &[u8]) -> Option<(Update, usize)>

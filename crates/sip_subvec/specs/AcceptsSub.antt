@@ -1,6 +1,7 @@
 -- The check of a sub-vector over whole lists: what is stated, widened by siblings and folded level
 -- by level, must give the root (Cormode, Thaler, Yi, PVLDB 5(1), section 4).
-use Rattle.std.specs.Prelude.{ℕ, ◌+◌, ◌-◌, ◌==◌, Bool, nat_eq, ℤ, pos, List, [], ◌∷◌, ◌++◌, map, fold, zip, option_to_list, Option, if◌then◌else◌}
+use Rattle.std.specs.Prelude.{ℕ, ◌+◌, ◌-◌, ◌==◌, Bool, nat_eq, ℤ, pos, List, [], ◌∷◌, ◌++◌, map}
+use Rattle.std.specs.Prelude.{fold, zip, option_to_list, Option, if◌then◌else◌}
 use Rattle.std.specs.List.{range_with_len}
 use Rattle.std.specs.Cmp.Lexicographic.{pointwise}
 use Rattle.sip_field.specs.Residue.{residue}

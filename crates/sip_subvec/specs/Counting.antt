@@ -1,6 +1,7 @@
 -- How many challenges a wrong sub-vector can be accepted at: what is counted, and what a call
 -- promises of it.
-use Rattle.std.specs.Prelude.{ℕ, suc, ◌-◌, ◌/◌, ◌==◌, Bool, true, ◌&&◌, nat_le, nat_abs, ℤ, List, [], ◌∷◌, length, Option, Result, Ok, Err}
+use Rattle.std.specs.Prelude.{ℕ, suc, ◌-◌, ◌/◌, ◌==◌, Bool, true, ◌&&◌, nat_le, nat_abs, ℤ, List}
+use Rattle.std.specs.Prelude.{[], ◌∷◌, length, Option, Result, Ok, Err}
 use Rattle.std.specs.List.{list_all}
 use Rattle.std.specs.Cmp.Lexicographic.{pointwise}
 use Rattle.sip_field.specs.Moduli.{m61_modulus}

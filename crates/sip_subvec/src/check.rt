@@ -1,12 +1,15 @@
 //! The verifier's check of a sub-vector, as one running sum.
-ghost use Rattle.std.specs.Prelude.{◌≡◌, ◌≢◌, ℕ, ◌+◌, ◌-◌, ◌*◌, ◌/◌, ◌%◌, ◌^◌, ◌<◌, ◌≤◌, ◌&&◌, ◌==◌, true, false, pos, nat_abs, List, [], ◌∷◌, ◌++◌, length, slice_index, is_some, is_err, IsTrue, IfOk};
+ghost use Rattle.std.specs.Prelude.{◌≡◌, ◌≢◌, ℕ, ◌+◌, ◌-◌, ◌*◌, ◌/◌, ◌%◌, ◌^◌, ◌<◌, ◌≤◌, ◌&&◌};
+ghost use Rattle.std.specs.Prelude.{◌==◌, true, false, pos, nat_abs, List, [], ◌∷◌, ◌++◌, length};
+ghost use Rattle.std.specs.Prelude.{slice_index, is_some, is_err, IsTrue, IfOk};
 ghost use Rattle.std.specs.Option.{option_map};
 ghost use Rattle.sip_vector.specs.Answers.{is_within};
 ghost use Rattle.sip_vector.specs.Steps.{needs};
 ghost use Rattle.sip_replies.specs.Rising.{is_above};
 ghost use Rattle.sip_subvec.specs.AcceptsSub.{Siblings, Stated, gives_root};
 ghost use Rattle.sip_subvec.specs.Replies.{with_entries, asked_siblings, are_asked};
-ghost use Rattle.sip_subvec.specs.Checking.{HasTaken, Advances, AnswersAs, nothing, entry_test, sibling_term, level_sum};
+ghost use Rattle.sip_subvec.specs.Checking.{HasTaken, Advances, AnswersAs, nothing, entry_test};
+ghost use Rattle.sip_subvec.specs.Checking.{sibling_term, level_sum};
 
 use sip_field::Field;
 use sip_replies::is_above;

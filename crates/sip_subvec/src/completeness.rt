@@ -1,7 +1,8 @@
 //! Laws: honest replies are accepted, and what they state is the answer. These functions do
 //! nothing: each contract is a fact that holds.
 
-ghost use Rattle.std.specs.Prelude.{◌≡◌, ℕ, ◌^◌, ◌≤◌, ◌<◌, ℤ, pos, All, IsTrue, List, [], ◌∷◌, ◌++◌, length};
+ghost use Rattle.std.specs.Prelude.{◌≡◌, ℕ, ◌^◌, ◌≤◌, ◌<◌, ℤ, pos, All, IsTrue, List, [], ◌∷◌};
+ghost use Rattle.std.specs.Prelude.{◌++◌, length};
 ghost use Rattle.sip_field.specs.Moduli.{m61_modulus};
 ghost use Rattle.sip_vector.specs.declared.query.Query.TheVariants as queries;
 ghost use Rattle.sip_vector.specs.declared.update.Side.TheVariants.{First};
@@ -17,7 +18,8 @@ ghost use Rattle.sip_wire.specs.declared.version.Version.TheVariants.{One, Two};
 ghost use Rattle.sip_replies.specs.Replies.{IsAccepted, IsUnfinished};
 ghost use Rattle.sip_vector.specs.Examples.{four};
 ghost use Rattle.sip_subvec.specs.Examples.{reply_0, reply_1, both_entries};
-ghost use Rattle.sip_subvec.specs.Honest.{begun, learnt, proving, honest_messages, honest_reply, honest_replies, CanBeShown};
+ghost use Rattle.sip_subvec.specs.Honest.{begun, learnt, proving, honest_messages, honest_reply};
+ghost use Rattle.sip_subvec.specs.Honest.{honest_replies, CanBeShown};
 ghost use Rattle.sip_subvec.specs.Protocol.{sub_asked, sub_protocol, sub_rules};
 ghost use Rattle.sip_subvec.specs.Replies.{most_entries};
 

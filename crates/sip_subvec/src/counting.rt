@@ -2,7 +2,8 @@
 //! that holds.
 #![tactic(auto, unfolding(crate::specs::Counting::rise_within, crate::specs::Counting::are_all_asked, sip_counts::specs::Counts::sum_below, sip_counts::specs::Counts::count_below, sip_counts::specs::Counts::counted_from, sip_counts::specs::Counts::counted))]
 
-ghost use Rattle.std.specs.Prelude.{◌≡◌, ◌≢◌, ◌↔◌, ℕ, ◌*◌, ◌-◌, ◌/◌, ◌^◌, ◌<◌, ◌≤◌, true, ℤ, pos, nat_abs, Option, Some, List, [], ◌∷◌, length, All};
+ghost use Rattle.std.specs.Prelude.{◌≡◌, ◌≢◌, ◌↔◌, ℕ, ◌*◌, ◌-◌, ◌/◌, ◌^◌, ◌<◌, ◌≤◌, true, ℤ, pos};
+ghost use Rattle.std.specs.Prelude.{nat_abs, Option, Some, List, [], ◌∷◌, length, All};
 ghost use Rattle.sip_field.specs.Moduli.{m61_modulus};
 ghost use Rattle.sip_field.specs.Prime.{IsPrime};
 ghost use Rattle.sip_vector.specs.declared.update.Entry.{Entry as AnyEntry};
@@ -18,7 +19,8 @@ ghost use Rattle.sip_wire.specs.declared.version.Version.{Version};
 ghost use Rattle.sip_vector.specs.Answers.{pairs};
 ghost use Rattle.sip_replies.specs.Replies.{IsAccepted};
 ghost use Rattle.sip_subvec.specs.Protocol.{sub_asked, sub_protocol};
-ghost use Rattle.sip_subvec.specs.Counting.{accepts_stated, accepts_sub, accepts_small, is_right, said, SubCountClause};
+ghost use Rattle.sip_subvec.specs.Counting.{accepts_stated, accepts_sub, accepts_small, is_right};
+ghost use Rattle.sip_subvec.specs.Counting.{said, SubCountClause};
 ghost use Rattle.sip_subvec.specs.Examples.{guessed_sibling, two_siblings, states_first};
 
 /// Over every prime modulus, entries that are not those of the numbers are accepted at no more than

@@ -2,14 +2,18 @@
 //! nothing: each contract is a fact that holds.
 #![tactic(auto, unfolding(sip_replies::specs::Replies::run_from, sip_replies::specs::Replies::read_from, sip_wire::specs::Reading::read_frame, sip_wire::specs::Spelling::frame_fault, sip_wire::specs::Spelling::kind_fault, sip_wire::specs::Spelling::body_fault, sip_wire::specs::Spelling::asked, sip_wire::specs::Spelling::numbers_in, sip_wire::specs::Spelling::all_hold))]
 
-ghost use Rattle.std.specs.Prelude.{◌≡◌, ℕ, ◌+◌, ◌-◌, ◌%◌, ◌^◌, ◌<◌, ◌≤◌, ◌==◌, All, List, [], ◌∷◌, ◌++◌, length, drop, fold, zip, Ok, Err, pos};
-ghost use Rattle.sip_subvec.specs.Examples.{reply_0, reply_1, both, entry_2, left_one, verdict_of, stated_inner, stated_whole};
+ghost use Rattle.std.specs.Prelude.{◌≡◌, ℕ, ◌+◌, ◌-◌, ◌%◌, ◌^◌, ◌<◌, ◌≤◌, ◌==◌, All, List, [], ◌∷◌};
+ghost use Rattle.std.specs.Prelude.{◌++◌, length, drop, fold, zip, Ok, Err, pos};
+ghost use Rattle.sip_subvec.specs.Examples.{reply_0, reply_1, both, entry_2, left_one, verdict_of};
+ghost use Rattle.sip_subvec.specs.Examples.{stated_inner, stated_whole};
 ghost use Rattle.sip_field.specs.Moduli.{m61_modulus};
 ghost use Rattle.sip_vector.specs.Weights.{weighted_sum};
 ghost use Rattle.sip_vector.specs.declared.update.Entry.{Entry as AnyEntry};
-ghost use Rattle.sip_subvec.specs.AcceptsSub.{Siblings, Stated, stated_level, next_level, folded, gives_root};
+ghost use Rattle.sip_subvec.specs.AcceptsSub.{Siblings, Stated, stated_level, next_level, folded};
+ghost use Rattle.sip_subvec.specs.AcceptsSub.{gives_root};
 ghost use Rattle.sip_subvec.specs.Replies.{with_entries};
-ghost use Rattle.sip_subvec.specs.Checking.{entries_sum, siblings_sum, stated_sum, AreAsked, HasPassed};
+ghost use Rattle.sip_subvec.specs.Checking.{entries_sum, siblings_sum, stated_sum, AreAsked};
+ghost use Rattle.sip_subvec.specs.Checking.{HasPassed};
 ghost use Rattle.sip_vector.specs.Answers.{pairs};
 ghost use Rattle.sip_wire.specs.declared.version.Version.TheVariants.{One, Two};
 ghost use Rattle.sip_wire.specs.declared.message.Reason.{Reason};

@@ -2,10 +2,10 @@
 //!
 //! - [`SubCheck`] is the verifier's check of the replies to one query, as one running sum.
 //! - [`SubAsking`] is that check in the form in which the general talk of `sip_replies` asks.
-//! - [`SubProver`] is the honest side. It keeps the list of a vector's entries that are not 0, which
-//!   it shares with the vector, the challenges so far, and the interval of the present level above
-//!   the entries that were asked for; it gives the nodes beside the interval, each as a sum over the
-//!   entries below it, and goes up by one challenge.
+//! - [`SubProver`] is the honest side. It keeps the list of a vector's entries that are not 0,
+//!   which it shares with the vector, the challenges so far, and the interval of the present level
+//!   above the entries that were asked for; it gives the nodes beside the interval, each as a sum
+//!   over the entries below it, and goes up by one challenge.
 //!
 //! # What is proved
 //!
@@ -52,22 +52,22 @@
 //! | `SubCheck::siblings` | the same for each sibling, of the bits of its index in its level |
 //! | `SubCheck::depth`, `SubCheck::reveal`, `SubCheck::finish`, `SubCheck::spent` | 0 |
 //! | `SubAsking::take` | those of its frame's entries or siblings; its other calls have none |
-//! | `SubProver::start` | 0; in time O(1), and a walk over the vector where additions are pending in it |
+//! | `SubProver::start` | 0; in time O(1), and a walk over the vector where it has not settled |
 //! | `SubProver::learn` | 0; in time O(1) |
-//! | `SubProver::siblings` | 127 for each seven challenges so far, and one for each entry below a sibling and seven challenges |
+//! | `SubProver::siblings` | one for each entry below a sibling, and 127, for seven challenges |
 //!
 //! No two siblings of one proof lie above the same entry, so over all levels each entry is used
 //! once.
 #![tactic(auto)]
 
-mod asking;
 mod check;
 pub mod completeness;
 pub mod counting;
 pub mod laws;
 mod nodes;
 mod prover;
+mod sub_asking;
 
-pub use asking::SubAsking;
 pub use check::{MOST_ENTRIES, SubCheck};
 pub use prover::{SiblingPair, SubProver};
+pub use sub_asking::SubAsking;

@@ -1,6 +1,7 @@
 //! Nodes of a level as weighted sums over the entries below them.
 
-ghost use Rattle.std.specs.Prelude.{◌≡◌, ℕ, List, [], ◌+◌, ◌-◌, ◌*◌, ◌%◌, ◌^◌, ◌<◌, ◌≤◌, All, length, map, take, drop, filter, IfOk};
+ghost use Rattle.std.specs.Prelude.{◌≡◌, ℕ, List, [], ◌+◌, ◌-◌, ◌*◌, ◌%◌, ◌^◌, ◌<◌, ◌≤◌, All};
+ghost use Rattle.std.specs.Prelude.{length, map, take, drop, filter, IfOk};
 ghost use Rattle.sip_field.specs.Products.{zero_factor, bits_product, AreTables};
 ghost use Rattle.sip_field.specs.declared.factors.Factors.TheVariants.{Tree};
 ghost use Rattle.sip_subvec.specs.Checking.{entries_sum};
@@ -183,7 +184,7 @@ fn summed<F: Field, const N: usize>(
     for entry in entries {
         let place = entry.index % size;
         sums = moved_to(sums, high, place / reach);
-        let value = F::of_signed(entry.value);
+        let value = F::loose_signed(entry.value);
         // No sum of as many numbers of 64 bits as memory holds leaves 128 bits.
         sums.near += u128::from(loosely_by_tables::<F, N>(value, low, place % reach));
     }

@@ -26,10 +26,10 @@ pub struct SiblingPair<F> {
 /// A contract sees the level of the tree that the challenges so far lead to, as the list of all its
 /// residues, and the interval of its nodes above the entries. The list of the m entries that are
 /// not 0 is the vector's own, and what takes memory is the challenges; where additions are pending
-/// in the vector the prover has a list to itself. No level is made: a node is the sum of the entries
-/// below it, each times the product of the challenges at the bits of its index that are 1 (Cormode,
-/// Thaler, Yi, PVLDB 5(1), section 4). The siblings of different levels lie above different
-/// entries, so each entry counts for one sibling at most.
+/// in the vector the prover has a list to itself. No level is made: a node is the sum of the
+/// entries below it, each times the product of the challenges at the bits of its index that are 1
+/// (Cormode, Thaler, Yi, PVLDB 5(1), section 4). The siblings of different levels lie above
+/// different entries, so each entry counts for one sibling at most.
 #[derive(Drop)]
 pub struct SubProver<F: Field> {
     // The vector's own list where it was settled. A vector writes to no list that it shares but
@@ -102,8 +102,8 @@ impl<F: Field> SubProver<F> {
     ///
     /// O(log m), without memory: 127 `times` for each seven challenges so far, whose products are
     /// on the stack for this call. An entry below the siblings takes one for each seven challenges
-    /// that tell it from its neighbours, so that some 32 of them have the higher bits in common, and
-    /// such a run takes one for each seven challenges above these.
+    /// that tell it from its neighbours, so that some 32 of them have the higher bits in common,
+    /// and such a run takes one for each seven challenges above these.
     pub fn siblings(&self) -> SiblingPair<F>
         requires { 2 ≤ length self.now.level }
         ensures left { option_map F.number result.left ≡ (its_siblings self.now).left }

@@ -1,8 +1,8 @@
 -- A strategy has wrong replies accepted at few vectors of challenges.
-use Rattle.std.proofs.Common.{◌≡◌, ◌≢◌, ℕ, zero, suc, ◌*◌, ◌-◌, ◌/◌, ◌<◌, ◌≤◌, ◌^◌, Bool, true, false, not, Option, Some, None, List, [], ◌∷◌, length, ℤ, nat_abs, refl, ap, sym, ◌∙◌, arith, inl, inr}
+use Rattle.std.proofs.Common.{◌≡◌, ◌≢◌, ℕ, zero, suc, ◌*◌, ◌-◌, ◌/◌, ◌<◌, ◌≤◌, ◌^◌, Bool, true, not, Option, Some, None, List, [], ◌∷◌, length, ℤ, nat_abs, refl, ap, sym, ◌∙◌, arith, inl, inr}
 use Rattle.std.specs.Ordering.{int_eq}
 use Rattle.std.specs.Cmp.{signed_Decides}
-use Rattle.std.proofs.lemmas.Bool.{cases_Bool, and_parts, and_from, not-true, both_ways, false_from_ne_true}
+use Rattle.std.proofs.lemmas.Bool.{cases_Bool, and_parts, and_from, not-true, both_ways}
 use Rattle.std.proofs.lemmas.List.Elements.{All-nil}
 use Rattle.sip_field.specs.Prime.{IsPrime}
 use Rattle.sip_field.specs.Moduli.{m61_modulus}
@@ -10,7 +10,7 @@ use Rattle.sip_field.specs.Residue.{residue}
 use Rattle.sip_wire.specs.Table.{most_claim}
 use Rattle.sip_counts.specs.Counts.{counted}
 use Rattle.sip_counts.specs.Strategies.{Strategy, IsOfBytes, replies, all_there, is_wrong, takes_wrong}
-use Rattle.sip_counts.proofs.Vectors.{counted-grows, counted-none}
+use Rattle.sip_counts.proofs.EachVector.{counted-empty, counted-longer, counted-longer_grows}
 use Rattle.sip_wire.specs.declared.version.Version.{Version}
 use Rattle.sip_replies.specs.Replies.{Fault, run}
 use Rattle.sip_sums.specs.AcceptsSum.{is_small_claim, product_at, adds_up, accepts_stated, total}
@@ -102,27 +102,15 @@ module _ (version : Version) (p : ℕ) (first second : List ℤ) (prime : IsPrim
 
   -- so few vectors are counted
   pub few_fooled : (d : ℕ) → length first ≡ 2 ^ d → length second ≡ 2 ^ d → nat_abs (total first second) ≤ (p - 1) / 2 → counted p wrongly d ≤ 2 * d * p ^ (d - 1)
-  few_fooled zero lx ly fits = omega (arith, counted-none p 0 wrongly each)
-    where
-      each : (v : List ℕ) → length v ≡ 0 → wrongly v ≡ false
-      each [] e = false_from_ne_true (wrongly []) none_accepted
-      each (x ∷ v) e = absurd (omega arith)
+  few_fooled zero lx ly fits = omega (arith, counted-empty p wrongly none_accepted)
   few_fooled (suc m) lx ly fits = elim (cases_Bool (int_eq (claim_said version strategy) (total first second))) [
-    | inl same ↦ omega (arith, counted-none p (suc m) wrongly (never same))
+    | inl same ↦ omega (arith, counted-longer p m wrongly (λ x v h. (some_accepted x v h).1 ((signed_Decides (claim_said version strategy) (total first second)).0 same)))
     | inr differ ↦
         let few = few_wrong_sums p (suc m) first second (claim_said version strategy) (polynomials_said version strategy) prime lx ly fits
         (λ e. both_ways (int_eq (claim_said version strategy) (total first second)) differ ((signed_Decides (claim_said version strategy) (total first second)).1 e)) in
-        let grows = counted-grows p wrongly stated (suc m) (λ v e _ h. each v e h) in
+        let grows = counted-longer_grows p m wrongly stated (λ x v h. (some_accepted x v h).0) in
         omega arith
   ]
-    where
-      each : (v : List ℕ) → length v ≡ suc m → wrongly v ≡ true → stated v ≡ true
-      each [] e h = absurd (omega arith)
-      each (x ∷ v) e h = (some_accepted x v h).0
-
-      never : int_eq (claim_said version strategy) (total first second) ≡ true → (v : List ℕ) → length v ≡ suc m → wrongly v ≡ false
-      never same [] e = absurd (omega arith)
-      never same (x ∷ v) e = false_from_ne_true (wrongly (x ∷ v)) (λ h. (some_accepted x v h).1 ((signed_Decides (claim_said version strategy) (total first second)).0 same))
 
 -- the claim of a strategy of bytes is small
 pub strategy_small : (version : Version) (strategy : Strategy) → IsOfBytes strategy → is_small_claim m61_modulus (claim_said version strategy) ≡ true

@@ -1,5 +1,5 @@
 -- The frames of a sum's replies: which have a spelling, and how a reply of them is read.
-use Rattle.std.proofs.Common.{◌≡◌, ℕ, ◌<◌, ◌≤◌, Bool, true, false, ℤ, nat_abs, Some, Result, Ok, Err, List, [], ◌++◌, refl, sym, ap, subst, ◌∙◌}
+use Rattle.std.proofs.Common.{◌≡◌, ℕ, ◌<◌, ◌≤◌, Bool, true, false, ℤ, nat_abs, Some, Result, Ok, List, [], ◌++◌, refl, sym, ap, ◌∙◌}
 use Rattle.std.specs.Prelude.{◌==◌, IsTrue}
 use Rattle.std.proofs.lemmas.Bool.{and_from, and_parts, lt-ltb, ltb-true}
 use Rattle.std.proofs.lemmas.List.{append-nil}
@@ -11,23 +11,20 @@ use Rattle.sip_wire.specs.declared.message.Message.{Message}
 use Rattle.sip_wire.specs.declared.message.Message.TheVariants as messages
 use Rattle.sip_wire.specs.declared.message.Reason.{Reason}
 use Rattle.sip_wire.specs.declared.message.Reason.TheVariants as reasons
-use Rattle.sip_wire.specs.declared.message.WireFault.{WireFault}
 use Rattle.sip_wire.specs.declared.version.Version.{Version}
 use Rattle.sip_wire.specs.Decoding.{IsBytes, Spelled}
-use Rattle.sip_wire.specs.Reading.{read_frame}
 use Rattle.sip_wire.specs.Spelling.{fits, has_room, all_hold, spelling}
 use Rattle.sip_wire.specs.Table.{most_claim}
-use Rattle.sip_wire.proofs.Bytes.{IsBytes-drop}
 use Rattle.sip_wire.proofs.Longest.{claim_fits, claim_from_fits}
-use Rattle.sip_wire.proofs.ReadingLaws.{read_frame-rest, read_frame-spelling}
-use Rattle.sip_wire.proofs.ReadsBack.{read_frame-message}
+use Rattle.sip_wire.proofs.ReadingLaws.{read_frame-spelling}
 use Rattle.sip_wire.proofs.SmallNumbers.{element_room, in_range}
 use Rattle.sip_replies.specs.declared.check.More.{More}
 use Rattle.sip_replies.specs.declared.check.More.TheVariants as mores
 use Rattle.sip_replies.specs.Protocols.{Rules}
-use Rattle.sip_replies.specs.Replies.{frame_says, read_reply, step_says}
+use Rattle.sip_replies.specs.Replies.{read_reply, step_says}
+use Rattle.sip_replies.proofs.FirstFrame.{first_frame}
 use Rattle.sip_replies.proofs.Passing.{at_end_parts}
-use Rattle.sip_replies.proofs.Reading.{read_reply-frame, read_reply-step}
+use Rattle.sip_replies.proofs.Reading.{read_reply-step}
 use Rattle.sip_sums.specs.AcceptsSum.{Coefficients, sum_of_ends}
 use Rattle.sip_sums.specs.Checking.{zero_polynomial}
 use Rattle.sip_sums.specs.Honest.{poly_message}
@@ -154,17 +151,10 @@ module _ (version : Version) (p : ℕ) where
         by_test x rest (sum_of_ends p x == expected) refl sp e
     by_message _ rest sp e = absurd cc
 
-    by_frame : (r : Result (Message × List ℕ) WireFault) → read_frame version places.Poly bytes ≡ r
-        → frame_says R (read_reply R) s r ≡ Ok t → IsPoly claim expected bytes t
-    by_frame (Err fault) is e = absurd cc
-    by_frame (Ok frame) is e =
-        by_message frame.0 frame.1
-        (read_frame-message version places.Poly bytes frame.0 frame.1 fine is) e
-
     pub poly_back : read_reply R s bytes ≡ Ok t → IsPoly claim expected bytes t
     poly_back e =
-        by_frame (read_frame version places.Poly bytes) refl
-        (sym (read_reply-frame R s bytes) ∙ e)
+        let first = first_frame R s t bytes fine e in
+        by_message first.message first.rest first.spelled first.says
 
   -- reply 0 is a claim and one polynomial
   pub record IsFirst (bytes : List ℕ) (t : SumState) : Type 0 where
@@ -187,17 +177,7 @@ module _ (version : Version) (p : ℕ) where
     }
     of_message _ rest fine_rest sp e = absurd cc
 
-    of_frame : (r : Result (Message × List ℕ) WireFault)
-        → read_frame version places.Claim bytes ≡ r
-        → frame_says R (read_reply R) R.start r ≡ Ok t → IsFirst bytes t
-    of_frame (Err fault) is e = absurd cc
-    of_frame (Ok frame) is e =
-        let rest = read_frame-rest version places.Claim bytes frame.0 frame.1 is in
-        of_message frame.0 frame.1
-        (subst (λ (l : List ℕ). IsBytes l) (sym rest.1) (IsBytes-drop _ bytes fine))
-        (read_frame-message version places.Claim bytes frame.0 frame.1 fine is) e
-
     pub first_back : read_reply R R.start bytes ≡ Ok t → IsFirst bytes t
     first_back e =
-        of_frame (read_frame version places.Claim bytes) refl
-        (sym (read_reply-frame R R.start bytes) ∙ e)
+        let first = first_frame R R.start t bytes fine e in
+        of_message first.message first.rest first.are_bytes first.spelled first.says

@@ -51,11 +51,12 @@ frame_claim (Err _) = pos 0
 unfoldable pub claim_in : Version → List ℕ → ℤ
 claim_in version bytes = frame_claim (read_frame version places.Claim bytes)
 
-behind : Result (Message × List ℕ) WireFault → List ℕ
+-- and what stands behind it
+unfoldable pub behind : Result (Message × List ℕ) WireFault → List ℕ
 behind (Ok frame) = frame.1
 behind (Err _) = []
 
--- the polynomial behind it
+-- the polynomial there
 pub first_polynomial_in : Version → List ℕ → Coefficients
 first_polynomial_in version bytes = polynomial_in version (behind (read_frame version places.Claim bytes))
 
@@ -87,27 +88,7 @@ module _ (version : Version) (p : ℕ) where
     by_message next rest (messages.Poly a b c) t h =
         let its : Coefficients = record { c0 = a; c1 = b; c2 = c } in
         by_test next rest its t (eqb (sum_of_ends p its) expected) refl h
-    by_message next rest (messages.Claim v) t h = absurd (cc)
-    by_message next rest (messages.Refuse code) t h = absurd (cc)
-    by_message next rest (messages.Open number depth) t h = absurd (cc)
-    by_message next rest (messages.Updates us) t h = absurd (cc)
-    by_message next rest messages.EndStream t h = absurd (cc)
-    by_message next rest (messages.Query q) t h = absurd (cc)
-    by_message next rest (messages.Reveal r) t h = absurd (cc)
-    by_message next rest messages.Bye t h = absurd (cc)
-    by_message next rest (messages.Entries v) t h = absurd (cc)
-    by_message next rest (messages.Siblings left right) t h = absurd (cc)
-    by_message next rest (messages.Leaves v) t h = absurd (cc)
-    by_message next rest (messages.Nodes v) t h = absurd (cc)
-    by_message next rest messages.LevelEnd t h = absurd (cc)
-    by_message next rest (messages.AskLook code item) t h = absurd (cc)
-    by_message next rest (messages.Found flag index) t h = absurd (cc)
-    by_message next rest messages.End t h = absurd (cc)
-    by_message next rest (messages.AskMoment side degree) t h = absurd (cc)
-    by_message next rest (messages.Held held) t h = absurd (cc)
-    by_message next rest (messages.Recall count) t h = absurd (cc)
-    by_message next rest (messages.Marks v) t h = absurd (cc)
-    by_message next rest (messages.Power v) t h = absurd (cc)
+    by_message next rest _ t h = absurd (cc)
 
     by_frame : (next : Next) (r : Result (Message × List ℕ) WireFault) (t : SumState) → frame_says R next (known claim expected last) r ≡ Ok t → Adds p claim expected (frame_polynomial r) t
     unfolding frame_polynomial
@@ -125,27 +106,7 @@ module _ (version : Version) (p : ℕ) where
   first_message : (rest : List ℕ) (m : Message) (t : SumState) → step_says (read_reply R) rest (sum_step p R.start m) ≡ Ok t → Adds p (message_claim m) (residue p (message_claim m)) (polynomial_in version rest) t
   unfolding message_claim
   first_message rest (messages.Claim v) t h = later_adds v (residue p v) zero_polynomial rest t h
-  first_message rest (messages.Poly a b c) t h = absurd (cc)
-  first_message rest (messages.Refuse code) t h = absurd (cc)
-  first_message rest (messages.Open number depth) t h = absurd (cc)
-  first_message rest (messages.Updates us) t h = absurd (cc)
-  first_message rest messages.EndStream t h = absurd (cc)
-  first_message rest (messages.Query q) t h = absurd (cc)
-  first_message rest (messages.Reveal r) t h = absurd (cc)
-  first_message rest messages.Bye t h = absurd (cc)
-  first_message rest (messages.Entries v) t h = absurd (cc)
-  first_message rest (messages.Siblings left right) t h = absurd (cc)
-  first_message rest (messages.Leaves v) t h = absurd (cc)
-  first_message rest (messages.Nodes v) t h = absurd (cc)
-  first_message rest messages.LevelEnd t h = absurd (cc)
-  first_message rest (messages.AskLook code item) t h = absurd (cc)
-  first_message rest (messages.Found flag index) t h = absurd (cc)
-  first_message rest messages.End t h = absurd (cc)
-  first_message rest (messages.AskMoment side degree) t h = absurd (cc)
-  first_message rest (messages.Held held) t h = absurd (cc)
-  first_message rest (messages.Recall count) t h = absurd (cc)
-  first_message rest (messages.Marks v) t h = absurd (cc)
-  first_message rest (messages.Power v) t h = absurd (cc)
+  first_message rest _ t h = absurd (cc)
 
   first_frame : (r : Result (Message × List ℕ) WireFault) (t : SumState) → frame_says R (read_reply R) R.start r ≡ Ok t → Adds p (frame_claim r) (residue p (frame_claim r)) (polynomial_in version (behind r)) t
   unfolding frame_claim behind

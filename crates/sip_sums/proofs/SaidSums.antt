@@ -170,11 +170,12 @@ pub record Accepted (version : Version) (p product : ℕ) (r : List ℕ) (all : 
   pub claim : s.claim ≡ Some some
   pub ends : eqb s.expected product ≡ true
 
-module _ (version : Version) (p product : ℕ) (r : List ℕ) (all : List (List ℕ)) where
-  abbrev tested : Bool → ℤ → Result Answer Fault
-  tested test claim = in_round (length r) (needs test reasons.Root >>= λ _. Ok (number claim))
+-- what a claim comes to behind the last reply, by the test of the root
+abbrev pub tested : List ℕ → Bool → ℤ → Result Answer Fault
+tested r test claim = in_round (length r) (needs test reasons.Root >>= λ _. Ok (number claim))
 
-  root_passed : (s : SumState) (claim : ℤ) (test : Bool) → run (sum_rules version p) r all ≡ Ok s → s.claim ≡ Some claim → eqb s.expected product ≡ test → is_ok (tested test claim) ≡ true → Accepted version p product r all
+module _ (version : Version) (p product : ℕ) (r : List ℕ) (all : List (List ℕ)) where
+  root_passed : (s : SumState) (claim : ℤ) (test : Bool) → run (sum_rules version p) r all ≡ Ok s → s.claim ≡ Some claim → eqb s.expected product ≡ test → is_ok (tested r test claim) ≡ true → Accepted version p product r all
   root_passed s claim true is its root k = record { s = s; states = is; some = claim; claim = its; ends = root }
   root_passed s claim false is its root k = absurd (cc)
 

@@ -1,6 +1,7 @@
 -- The check of a claimed sum of products, over whole lists: the sum-check protocol, round by round,
 -- for the product of two multilinear extensions (Cormode, Thaler, Yi, PVLDB 5(1), section 3).
-use Rattle.std.specs.Prelude.{ℕ, ◌+◌, ◌-◌, ◌*◌, ◌/◌, ◌%◌, ◌==◌, Bool, false, ◌&&◌, nat_le, ℤ, ◌*ℤ◌, nat_abs, List, [], ◌∷◌, map, zip}
+use Rattle.std.specs.Prelude.{ℕ, ◌+◌, ◌-◌, ◌*◌, ◌/◌, ◌%◌, ◌==◌, Bool, false, ◌&&◌, nat_le, ℤ, ◌*ℤ◌}
+use Rattle.std.specs.Prelude.{nat_abs, List, [], ◌∷◌, map, zip}
 use Rattle.sip_field.specs.Polynomial.{polynomial}
 use Rattle.sip_field.specs.Residue.{residue}
 use Rattle.sip_vector.specs.Extensions.{ext}

@@ -1,6 +1,7 @@
 -- How many challenges a wrong sum can be accepted at: what is counted, and what a call promises of
 -- it.
-use Rattle.std.specs.Prelude.{ℕ, ◌*◌, Bool, false, ◌&&◌, ℤ, List, [], take, Option, Some, None, Result, Ok, Err}
+use Rattle.std.specs.Prelude.{ℕ, ◌*◌, Bool, false, ◌&&◌, ℤ, List, [], take, Option, Some, None}
+use Rattle.std.specs.Prelude.{Result, Ok, Err}
 use Rattle.std.specs.Ordering.{int_eq}
 use Rattle.sip_field.specs.Moduli.{m61_modulus}
 use Rattle.sip_counts.specs.Clauses.{FewAndCounted}

@@ -2,7 +2,8 @@
 --
 -- Reply 0 has the sum and the first round polynomial. Each later reply has the polynomial of the
 -- next round, once the challenge before it is revealed.
-use Rattle.std.specs.Prelude.{◌≡◌, ◌<◌, ◌≤◌, ℕ, zero, suc, ◌+◌, ◌-◌, ◌*◌, ◌%◌, ◌^◌, ℤ, nat_abs, List, [], ◌∷◌, ◌++◌, length, map, fold, take, sum_by}
+use Rattle.std.specs.Prelude.{◌≡◌, ◌<◌, ◌≤◌, ℕ, zero, suc, ◌+◌, ◌-◌, ◌*◌, ◌%◌, ◌^◌, ℤ, nat_abs}
+use Rattle.std.specs.Prelude.{List, [], ◌∷◌, ◌++◌, length, map, fold, take, sum_by}
 use Rattle.std.specs.List.{range_with_len, flat_map}
 use Rattle.sip_field.specs.Moduli.{m61_modulus}
 use Rattle.sip_field.specs.Residue.{residue, difference_mod}

@@ -1,6 +1,7 @@
 -- Pairs of neighbours of lists that are kept by their entries, and the sums over them. Only the
 -- contracts of private functions cite these definitions.
-use Rattle.std.specs.Prelude.{◌≡◌, ℕ, suc, ◌+◌, ◌*◌, ◌/◌, ◌%◌, ◌<◌, ◌≤◌, ◌==◌, pos, List, [], ◌∷◌, length, map, if◌then◌else◌, slice_index_or}
+use Rattle.std.specs.Prelude.{◌≡◌, ℕ, suc, ◌+◌, ◌*◌, ◌/◌, ◌%◌, ◌<◌, ◌≤◌, ◌==◌, pos, List, [], ◌∷◌}
+use Rattle.std.specs.Prelude.{length, map, if◌then◌else◌, slice_index_or}
 use Rattle.sip_vector.specs.Levels.{index_and_residue}
 use Rattle.sip_vector.specs.declared.level.Spot.{Spot}
 use Rattle.sip_sums.specs.declared.pairs.Pair.{Pair}

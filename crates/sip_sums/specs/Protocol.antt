@@ -1,7 +1,8 @@
 -- The replies to a query for a sum as a protocol of the general talk.
 --
 -- Reply 0 is a Claim frame and a Poly frame; each later reply is one Poly frame.
-use Rattle.std.specs.Prelude.{ℕ, ◌==◌, ℤ, Option, Some, None, is_none, Result, Ok, Err, if◌then◌else◌}
+use Rattle.std.specs.Prelude.{ℕ, ◌==◌, ℤ, Option, Some, None, is_none, Result, Ok, Err}
+use Rattle.std.specs.Prelude.{if◌then◌else◌}
 use Rattle.sip_field.specs.Residue.{residue}
 use Rattle.sip_vector.specs.Answers.{Answer, number}
 use Rattle.sip_vector.specs.Steps.{◌>>=◌, needs}

@@ -1,7 +1,8 @@
 -- Which sum each kind of query is for.
 use Rattle.std.specs.Prelude.{ℕ, ℤ, List, Option, Some, None}
 use Rattle.sip_vector.specs.declared.query.Query.{Query}
-use Rattle.sip_vector.specs.declared.query.Query.TheVariants.{Sub, Range, F2, Inner, Heavy, Share, Above}
+use Rattle.sip_vector.specs.declared.query.Query.TheVariants.{Sub, Range, F2, Inner, Heavy, Share}
+use Rattle.sip_vector.specs.declared.query.Query.TheVariants.{Above}
 use Rattle.sip_vector.specs.declared.update.Side.TheVariants.{First, Second}
 use Rattle.sip_vector.specs.declared.update.Update.{Update}
 use Rattle.sip_vector.specs.Extensions.{ones}

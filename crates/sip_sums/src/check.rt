@@ -1,5 +1,6 @@
 //! The verifier's check of a claimed sum, round by round.
-ghost use Rattle.std.specs.Prelude.{◌≡◌, ◌+◌, ◌-◌, ◌/◌, ◌<◌, ◌≤◌, ◌==◌, false, nat_abs, length, slice_index, is_err, OnOk};
+ghost use Rattle.std.specs.Prelude.{◌≡◌, ◌+◌, ◌-◌, ◌/◌, ◌<◌, ◌≤◌, ◌==◌, false, nat_abs, length};
+ghost use Rattle.std.specs.Prelude.{slice_index, is_err, OnOk};
 ghost use Rattle.sip_field.specs.Residue.{residue};
 ghost use Rattle.sip_vector.specs.Steps.{needs};
 ghost use Rattle.sip_sums.specs.AcceptsSum.{sum_of_ends, value_at};
@@ -166,15 +167,15 @@ impl<F: Field, const CAP: usize> SumCheck<F, CAP> {
     }
 }
 
-// Whether two values are the same residue.
-fn is_same<F: Field>(x: F, y: F) -> bool
+/// Whether two values are the same residue.
+pub fn is_same<F: Field>(x: F, y: F) -> bool
     ensures { result ≡ (F.number x == F.number y) }
 {
     x.number() == y.number()
 }
 
-// The same challenges, once more.
-fn copy_of<F: Field, const CAP: usize>(seat: &Seat<F, CAP>) -> Seat<F, CAP>
+/// The same challenges, once more. No `times`.
+pub fn copy_of<F: Field, const CAP: usize>(seat: &Seat<F, CAP>) -> Seat<F, CAP>
     ensures { result ≡ seat.now }
 {
     seat.clone().unwrap()

@@ -6,7 +6,8 @@ ghost use Rattle.sip_vector.specs.Vectors.{nonzero};
 ghost use Rattle.sip_vector.specs.inside.Gathered.{abs_sum};
 ghost use Rattle.sip_wire.specs.Table.{most_claim};
 ghost use Rattle.sip_sums.specs.AcceptsSum.{total};
-ghost use Rattle.sip_sums.specs.Claims.{squares_sum, products_sum, range_sum, value_within, RisesFrom};
+ghost use Rattle.sip_sums.specs.Claims.{squares_sum, products_sum, range_sum, value_within};
+ghost use Rattle.sip_sums.specs.Claims.{RisesFrom};
 
 use sip_field::OutOfMemory;
 use sip_vector::{Entry, Vector};

@@ -2,7 +2,8 @@
 //! that holds.
 #![tactic(auto, unfolding(crate::specs::AcceptsSum::adds_up, sip_counts::specs::Counts::sum_below, sip_counts::specs::Counts::count_below, sip_counts::specs::Counts::counted_from, sip_counts::specs::Counts::counted))]
 
-ghost use Rattle.std.specs.Prelude.{◌≡◌, ◌≢◌, ◌↔◌, ℕ, ◌*◌, ◌-◌, ◌/◌, ◌^◌, ◌≤◌, true, ℤ, pos, nat_abs, Option, Some, List, [], ◌∷◌, length};
+ghost use Rattle.std.specs.Prelude.{◌≡◌, ◌≢◌, ◌↔◌, ℕ, ◌*◌, ◌-◌, ◌/◌, ◌^◌, ◌≤◌, true, ℤ, pos};
+ghost use Rattle.std.specs.Prelude.{nat_abs, Option, Some, List, [], ◌∷◌, length};
 ghost use Rattle.sip_field.specs.Moduli.{m61_modulus};
 ghost use Rattle.sip_field.specs.Prime.{IsPrime};
 ghost use Rattle.sip_vector.specs.declared.query.Query.{Query as AnyQuery};
@@ -15,7 +16,8 @@ ghost use Rattle.sip_counts.specs.Strategies.{Strategy, IsOfBytes, replies, fool
 ghost use Rattle.sip_wire.specs.declared.version.Version.{Version};
 ghost use Rattle.sip_replies.specs.Replies.{IsAccepted};
 ghost use Rattle.sip_sums.specs.AcceptsSum.{Coefficients, accepts_stated, product_at, total};
-ghost use Rattle.sip_sums.specs.Counting.{accepts_small, accepts_sum, is_right, said, SumCountClause};
+ghost use Rattle.sip_sums.specs.Counting.{accepts_small, accepts_sum, is_right, said};
+ghost use Rattle.sip_sums.specs.Counting.{SumCountClause};
 ghost use Rattle.sip_sums.specs.Examples.{coefficients};
 ghost use Rattle.sip_sums.specs.Protocol.{sum_asked, sum_protocol};
 ghost use Rattle.sip_sums.specs.Questions.{Lists, lists_of};

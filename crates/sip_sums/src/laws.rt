@@ -1,7 +1,9 @@
 //! Laws of the check of a sum. These functions do nothing: each contract is a fact that holds.
 #![tactic(auto, unfolding(crate::specs::AcceptsSum::adds_up, sip_replies::specs::Replies::run_from, sip_replies::specs::Replies::read_from, sip_wire::specs::Reading::read_frame, sip_wire::specs::Spelling::frame_fault, sip_wire::specs::Spelling::kind_fault, sip_wire::specs::Spelling::body_fault, sip_wire::specs::Spelling::asked, sip_wire::specs::Spelling::numbers_in, sip_wire::specs::Spelling::all_hold))]
 
-ghost use Rattle.std.specs.Prelude.{◌≡◌, ℕ, ◌+◌, ℤ, ◌<◌, ◌==◌, ◌&&◌, slice_index, replicate, drop, ◌++◌, true, pos, Ok, Err, List, [], ◌∷◌, length, map, All, filter, is_none};
+ghost use Rattle.std.specs.Prelude.{◌≡◌, ℕ, ◌+◌, ℤ, ◌<◌, ◌==◌, ◌&&◌, slice_index, replicate, drop};
+ghost use Rattle.std.specs.Prelude.{◌++◌, true, pos, Ok, Err, List, [], ◌∷◌, length, map, All};
+ghost use Rattle.std.specs.Prelude.{filter, is_none};
 ghost use Rattle.std.specs.List.{range_with_len};
 ghost use Rattle.sip_field.specs.Moduli.{m61_modulus};
 ghost use Rattle.sip_field.specs.Residue.{residue};
@@ -14,13 +16,18 @@ ghost use Rattle.sip_wire.specs.declared.version.Version.{Version};
 ghost use Rattle.sip_wire.specs.declared.version.Version.TheVariants.{One, Two};
 ghost use Rattle.sip_wire.specs.Decoding.{IsBytes};
 ghost use Rattle.sip_replies.specs.Replies.{IsAccepted, verdict};
-ghost use Rattle.sip_sums.specs.AcceptsSum.{Coefficients, Stated, accepts_stated, adds_up, listed, product_at, total, value_at, sum_of_ends};
-ghost use Rattle.sip_sums.specs.Checking.{Kept, adds_up_from, begun as started, with_polynomial, with_revealed};
+ghost use Rattle.sip_sums.specs.AcceptsSum.{Coefficients, Stated, accepts_stated, adds_up, listed};
+ghost use Rattle.sip_sums.specs.AcceptsSum.{product_at, total, value_at, sum_of_ends};
+ghost use Rattle.sip_sums.specs.Checking.{Kept, adds_up_from, begun as started, with_polynomial};
+ghost use Rattle.sip_sums.specs.Checking.{with_revealed};
 ghost use Rattle.sip_sums.specs.Counting.{accepts_sum};
-ghost use Rattle.sip_sums.specs.Examples.{claim_frame, coefficients, less, other, poly_frame, reply_0, reply_1, stated_products, stated_range, stated_squares, stated_two, verdict_of};
+ghost use Rattle.sip_sums.specs.Examples.{claim_frame, coefficients, less, other, poly_frame};
+ghost use Rattle.sip_sums.specs.Examples.{reply_0, reply_1, stated_products, stated_range};
+ghost use Rattle.sip_sums.specs.Examples.{stated_squares, stated_two, verdict_of};
 ghost use Rattle.sip_sums.specs.Honest.{begun, its_polynomial, learnt, round_polynomial};
 ghost use Rattle.sip_sums.specs.Protocol.{sum_asked, sum_protocol};
-ghost use Rattle.sip_sums.specs.Stating.{HasSpelling, States, first_difference, judged, stated_replies};
+ghost use Rattle.sip_sums.specs.Stating.{HasSpelling, States, first_difference, judged};
+ghost use Rattle.sip_sums.specs.Stating.{stated_replies};
 
 /// The three sums at the challenges (2, 10), worked out by hand.
 pub fn sums_by_hand()

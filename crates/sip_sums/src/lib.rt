@@ -75,7 +75,6 @@
 //! | `SumProver::claim`, `SumProver::rounds_left` | 0 |
 #![tactic(auto)]
 
-mod asking;
 mod check;
 mod claims;
 pub mod completeness;
@@ -85,9 +84,10 @@ mod pairs;
 mod polynomial;
 mod prover;
 pub mod proving;
+mod sum_asking;
 
-pub use asking::SumAsking;
-pub use check::SumCheck;
+pub use check::{SumCheck, copy_of, is_same};
 pub use pairs::{Pair, next_pair};
 pub use polynomial::Poly;
 pub use prover::SumProver;
+pub use sum_asking::SumAsking;

@@ -1,8 +1,10 @@
 //! Round polynomials of folded lists, as sums over the pairs of neighbours that are not both 0.
-ghost use Rattle.std.specs.Prelude.{ℕ, List, ◌≡◌, ◌+◌, ◌*◌, ◌^◌, ◌<◌, ◌≤◌, [], length, map, MatchOption};
+ghost use Rattle.std.specs.Prelude.{ℕ, List, ◌≡◌, ◌+◌, ◌*◌, ◌^◌, ◌<◌, ◌≤◌, [], length, map};
+ghost use Rattle.std.specs.Prelude.{MatchOption};
 ghost use Rattle.sip_vector.specs.Levels.{index_and_residue};
 ghost use Rattle.sip_sums.specs.Checking.{zero_polynomial};
-ghost use Rattle.sip_sums.specs.Pairs.{alone, neighbours_of, pairs_of, pair_at, pair_in, polynomial_over, summed, with_product, IsNext, Rises};
+ghost use Rattle.sip_sums.specs.Pairs.{alone, neighbours_of, pairs_of, pair_at, pair_in};
+ghost use Rattle.sip_sums.specs.Pairs.{polynomial_over, summed, with_product, IsNext, Rises};
 ghost use Rattle.sip_sums.specs.Polynomials.{coefficients_of};
 
 use crate::Poly;

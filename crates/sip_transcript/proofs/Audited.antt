@@ -29,7 +29,7 @@ use Rattle.sip_verifier.specs.Talks.{opening_sent, stream_sent, update_frames, w
 use Rattle.sip_verifier.specs.Widths.{first_wide}
 use Rattle.sip_verifier.proofs.RunTalks.{written_is}
 use Rattle.sip_verifier.proofs.SeatedBehind.{seated_behind}
-use Rattle.sip_transcript.specs.Auditing.{Asked, Audit, Audits, Ends, EndsAudit, EndsSo, EndsWhole, Replay, exchange_of, inquiry_in, is_verdict, over_source, stops_auditing}
+use Rattle.sip_transcript.specs.Auditing.{StoredQuestions, Audit, Audits, Ends, EndsAudit, EndsSo, EndsWhole, Replay, exchange_of, inquiry_in, is_verdict, over_source, stops_auditing}
 use Rattle.sip_transcript.specs.declared.fault.HeadFault.{HeadFault}
 use Rattle.sip_transcript.specs.declared.fault.HeadFault.TheVariants as head_faults
 use Rattle.sip_transcript.specs.Causes.{status_of_head}
@@ -45,7 +45,7 @@ some_same : {X : Type 0} (o : Option X) (x y : X) → o ≡ Some x → o ≡ Som
 some_same o x y p q = cc
 
 module _ (version : Version) (task : Task) (challenges : List ℕ) (asks : List Ask) (is : AreAsked version task challenges asks) (a : Audit) (behind : List ℕ) (stored : a.stored ≡ transcript version task.depth asks behind) where
-  abbrev asked : Asked
+  abbrev asked : StoredQuestions
   asked = record { version = version; depth = task.depth; asks = asks }
 
   abbrev inquiry : Inquiry
@@ -113,7 +113,7 @@ module _ (version : Version) (task : Task) (challenges : List ℕ) (asks : List 
 
   module _ (before now : Counts) (s : Sitting) (left since : Option (List ℕ)) (taken : ℕ) (blank full : Option (List TalkEvent)) (r : Result (Unit {0}) Status)
       (unread : left ≡ Some a.unread) (told : Appends blank full (Some a.report)) (begun : IsBegun version task challenges a.stream left s)
-      (rp : IsReplayed s task.queries.items behind since taken blank full r) where
+      (rp : IsReplayed s behind since taken blank full r) where
     pub all_read : a.unread ≡ []
     all_read = some_same left a.unread [] unread begun.read
 
@@ -135,7 +135,7 @@ module _ (version : Version) (task : Task) (challenges : List ℕ) (asks : List 
         (λ bytes went. written_is blank full bytes a.report went told)
 
     pub ends : FaultClause (over_source before) (over_source now) (status_of r) → EndsSo task.form a before now (status_of r) its_replay
-    ends fault = rp.ends inquiry exchange (over_source before) (over_source now) is.queries goes fault
+    ends fault = rp.ends inquiry exchange (over_source before) (over_source now) goes fault
 
 module _ (form : Form) (a : Audit) (before now : Counts) (p : Replay form a) where
   -- ---- with no verdict
@@ -253,12 +253,12 @@ since_earlier first0 first firsts second0 second seconds peer peers report0 repo
 since_earlier first0 first firsts second0 second seconds peer peers report0 report reports keep keeps statuses.PeerFault a b c fault = fault
 since_earlier first0 first firsts second0 second seconds peer peers report0 report reports keep keeps _ a b c fault = tt
 
--- ---- the same session, the same queries
+-- ---- the same session
 
-pub replayed_as : {s t : Sitting} {queries others : List Query} {bytes : List ℕ} {left : Option (List ℕ)} {taken : ℕ} {blank full : Option (List TalkEvent)} {r : Result (Unit {0}) Status} → s ≡ t → queries ≡ others
-    → IsReplayed s queries bytes left taken blank full r → IsReplayed t others bytes left taken blank full r
-replayed_as {s = s} {t = t} {queries = queries} {others = others} {bytes = bytes} {left = left} {taken = taken} {blank = blank} {full = full} {r = r} same alike x =
-    subst (λ (qs : List Query). IsReplayed t qs bytes left taken blank full r) alike (subst (λ (x : Sitting). IsReplayed x queries bytes left taken blank full r) same x)
+pub replayed_as : {s t : Sitting} {bytes : List ℕ} {left : Option (List ℕ)} {taken : ℕ} {blank full : Option (List TalkEvent)} {r : Result (Unit {0}) Status} → s ≡ t
+    → IsReplayed s bytes left taken blank full r → IsReplayed t bytes left taken blank full r
+replayed_as {s = s} {t = t} {bytes = bytes} {left = left} {taken = taken} {blank = blank} {full = full} {r = r} same x =
+    subst (λ (x : Sitting). IsReplayed x bytes left taken blank full r) same x
 
 -- ---- a head that is not read
 

@@ -1,13 +1,15 @@
 -- What `audit` promises of a stored stream, of a transcript, and of what it writes.
 --
--- A transcript that begins with the head of a run is replayed: the run sent the stored stream, heard
--- a front of the bytes behind the head, and found the end only where none of them is left. Each line
--- and each status comes by the clauses of such a run at the head's challenges, which `run` keeps too.
--- With a verdict both files were read to their ends. `BadTranscript` comes exactly where a field of
--- the head is not there, and then nothing is written; or where bytes follow those that a verdict
--- took, whose lines are written then. Where a read of the transcript failed, nothing is written yet,
--- or what a run writes whose link fails there, or all of a verdict; and so where memory ran out.
-use Rattle.std.specs.Prelude.{◌≡◌, ◌≢◌, ◌⊎◌, ℕ, ◌+◌, Bool, true, false, ◌||◌, IsSome, IsTrue, List, [], length, map, Some, None}
+-- A transcript that begins with the head of a run is replayed: the run sent the stored stream,
+-- heard a front of the bytes behind the head, and found the end only where none of them is left.
+-- Each line and each status comes by the clauses of such a run at the head's challenges, which
+-- `run` keeps too. With a verdict both files were read to their ends. `BadTranscript` comes exactly
+-- where a field of the head is not there, and then nothing is written; or where bytes follow those
+-- that a verdict took, whose lines are written then. Where a read of the transcript failed, nothing
+-- is written yet, or what a run writes whose link fails there, or all of a verdict; and so where
+-- memory ran out.
+use Rattle.std.specs.Prelude.{◌≡◌, ◌≢◌, ◌⊎◌, ℕ, ◌+◌, Bool, true, false, ◌||◌, IsSome, IsTrue, List}
+use Rattle.std.specs.Prelude.{[], length, map, Some, None}
 use Rattle.std.specs.List.{flat_map}
 use Rattle.sip_ports.specs.declared.port.TalkEvent.{TalkEvent}
 use Rattle.sip_stream.specs.declared.form.Form.{Form}
@@ -26,13 +28,13 @@ use Rattle.sip_transcript.specs.Heads.{Ask, IsRun}
 use Rattle.sip_transcript.specs.Replaying.{Follows}
 
 -- what a head says was asked
-pub record Asked : Type 0 where
+pub record StoredQuestions : Type 0 where
   pub version : Version
   pub depth : ℕ
   pub asks : List Ask
 
 -- of a stream in this form
-abbrev pub inquiry_in : Form → Asked → Inquiry
+abbrev pub inquiry_in : Form → StoredQuestions → Inquiry
 inquiry_in form asked = record {
   version = asked.version;
   depth = asked.depth;
@@ -70,7 +72,7 @@ module _ (form : Form) (a : Audit) where
   -- The transcript has the head of a run, and other bytes behind it. This is the talk of a run that
   -- heard a front of these; `more` are left.
   pub record Replay : Type 0 where
-    pub asked : Asked
+    pub asked : StoredQuestions
     pub is_run : IsRun asked.version asked.depth asked.asks
     pub behind : List ℕ
     pub stored : a.stored ≡ transcript asked.version asked.depth asked.asks behind

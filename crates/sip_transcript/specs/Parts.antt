@@ -1,5 +1,6 @@
 -- What reading a part of a head answers.
-use Rattle.std.specs.Prelude.{◌≡◌, ℕ, ◌+◌, ⊤, All, IsTrue, List, [], ◌∷◌, ◌++◌, ◌<◌, length, Option, Some, None, Result, Ok, Err}
+use Rattle.std.specs.Prelude.{◌≡◌, ℕ, ◌+◌, ⊤, All, IsTrue, List, [], ◌∷◌, ◌++◌, ◌<◌, length, Option}
+use Rattle.std.specs.Prelude.{Some, None, Result, Ok, Err}
 use Rattle.std.specs.Io.KnownBytes.{Consumes}
 use Rattle.std.specs.List.{flat_map}
 use Rattle.sip_ports.specs.declared.port.PortStop.{PortStop}
@@ -63,8 +64,8 @@ MayAsk version depth asked =
     IsTrue (fits version (messages.Query asked.0)) × CanBeAsked depth asked.0
     × (asked.1 ≡ length (spelling version (messages.Query asked.0)))
 
--- What a frame asks: a query that it spells, which can be asked; or none, whatever follows the frame, and
--- nothing where it isn't whole.
+-- What a frame asks: a query that it spells, which can be asked; or none, whatever follows the
+-- frame, and nothing where it isn't whole.
 abbrev pub AsksIn : Version → ℕ → List ℕ → Option Query → Type 0
 AsksIn version depth frame (Some query) =
     Took version ToHelper frame (messages.Query query) × CanBeAsked depth query

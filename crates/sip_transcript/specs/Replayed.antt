@@ -1,9 +1,9 @@
 -- How far an audit has come. (For the parts of `audit` alone.)
-use Rattle.std.specs.Prelude.{◌≡◌, ◌≢◌, ◌⊎◌, ℕ, ⊤, List, [], length, map, Option, Some, None, Result, Ok, Err}
+use Rattle.std.specs.Prelude.{◌≡◌, ◌≢◌, ◌⊎◌, ℕ, ⊤, List, [], length, map, Option, Some, None}
+use Rattle.std.specs.Prelude.{Result, Ok, Err}
 use Rattle.std.specs.List.{flat_map}
 use Rattle.sip_ports.specs.declared.port.TalkEvent.{TalkEvent}
 use Rattle.sip_stream.specs.Records.{records}
-use Rattle.sip_vector.specs.declared.query.Query.{Query}
 use Rattle.sip_vector.specs.Pieces.{cut}
 use Rattle.sip_wire.specs.declared.version.Version.{Version}
 use Rattle.sip_wire.specs.Transcript.{transcript}
@@ -25,7 +25,8 @@ use Rattle.sip_transcript.specs.Replaying.{Follows, heard_count}
 
 -- ---- the head
 
--- the queries of a task and these numbers, their challenges, are those of a run that a head tells of
+-- the queries of a task and these numbers, their challenges, are those of a run that a head tells
+-- of
 pub record AreAsked (version : Version) (task : Task) (numbers : List ℕ) (asks : List Ask)
     : Type 0 where
   pub is_run : IsRun version task.depth asks
@@ -76,15 +77,14 @@ module _ (version : Version) (task : Task) (challenges bytes : List ℕ)
 
 -- The queries were asked of a source with these bytes. So many of them were heard, and others are
 -- left; and the run ended by its clauses, whatever came before its queries.
-pub record IsReplayed (s : Sitting) (queries : List Query) (bytes : List ℕ)
-    (left : Option (List ℕ)) (taken : ℕ) (blank full : Option (List TalkEvent))
-    (result : Result (Unit {0}) Status) : Type 0 where
+pub record IsReplayed (s : Sitting) (bytes : List ℕ) (left : Option (List ℕ)) (taken : ℕ)
+    (blank full : Option (List TalkEvent)) (result : Result (Unit {0}) Status) : Type 0 where
   pub talk : List TalkEvent
   pub more : List ℕ
   pub is_left : left ≡ Some more
   pub follows : Follows bytes talk more
   pub counted : taken ≡ heard_count talk
-  pub ends : (i : Inquiry) (x : Exchange) (before now : Counts) → queries ≡ i.queries
+  pub ends : (i : Inquiry) (x : Exchange) (before now : Counts)
       → GoesBehind i x s (Some []) (Some talk) blank full
       → FaultClause before now (status_of result) → Ended i x before now (status_of result)
 

@@ -2,10 +2,12 @@
 -- version 2.
 --
 -- All is written exactly where the bytes are a transcript to their end, and then they were read to
--- it, and are the transcript of a run whose replies are messages. Of bytes that stop being a transcript what stands before that place is written, which is
--- nothing where a field of the head is not there; and the status has the place. Where a port
--- stopped, or memory ran out, a front of this is written.
-use Rattle.std.specs.Prelude.{◌≡◌, ℕ, Bool, true, false, ◌||◌, IsTrue, List, [], take, Option, Some, None}
+-- it, and are the transcript of a run whose replies are messages. Of bytes that stop being a
+-- transcript what stands before that place is written, which is nothing where a field of the head
+-- is not there; and the status has the place. Where a port stopped, or memory ran out, a front of
+-- this is written.
+use Rattle.std.specs.Prelude.{◌≡◌, ℕ, Bool, true, false, ◌||◌, IsTrue, List, [], take, Option, Some}
+use Rattle.std.specs.Prelude.{None}
 use Rattle.sip_ports.specs.declared.port.TalkEvent.{TalkEvent}
 use Rattle.sip_ports.specs.Ports.{GoesOn, outs}
 use Rattle.sip_verifier.specs.declared.status.Port.TheVariants as ports

@@ -1,6 +1,7 @@
 //! Checking a stored run again: its stream against its transcript.
 
-ghost use Rattle.std.specs.Prelude.{◌≡◌, ◌≤◌, ℕ, List, All, Err, IfOk, IsSome, IsTrue, MatchResult, Ok, Some, length, map, false};
+ghost use Rattle.std.specs.Prelude.{◌≡◌, ◌≤◌, ℕ, List, All, Err, IfOk, IsSome, IsTrue, MatchResult};
+ghost use Rattle.std.specs.Prelude.{Ok, Some, length, map, false};
 ghost use Rattle.std.specs.declared.option.Option.{Option};
 ghost use Rattle.sip_field.specs.Elements.{m61_number};
 ghost use Rattle.sip_ports.specs.declared.port.TalkEvent.{TalkEvent};
@@ -8,12 +9,15 @@ ghost use Rattle.sip_ports.specs.Ports.{Lasts};
 ghost use Rattle.sip_vector.specs.declared.update.Update.{Update as AnyUpdate};
 ghost use Rattle.sip_wire.specs.Table.{is_element, most_queries};
 ghost use Rattle.sip_verifier.specs.Concluding.{Reports};
-ghost use Rattle.sip_verifier.specs.Snapshots.{Counts as AnyCounts, PortState, counts, port, snapshot};
+ghost use Rattle.sip_verifier.specs.Snapshots.{Counts as AnyCounts, PortState, counts, port};
+ghost use Rattle.sip_verifier.specs.Snapshots.{snapshot};
 ghost use Rattle.sip_verifier.specs.QuerySeats.{StandsFor};
 ghost use Rattle.sip_verifier.specs.Statuses.{FaultClause, Stops, stops_asking};
-ghost use Rattle.sip_transcript.specs.Auditing.{Audit, AuditClause, Audits, EndsAudit, stops_auditing};
+ghost use Rattle.sip_transcript.specs.Auditing.{Audit, AuditClause, Audits, EndsAudit};
+ghost use Rattle.sip_transcript.specs.Auditing.{stops_auditing};
 ghost use Rattle.sip_transcript.specs.Heads.{Ask, Says};
-ghost use Rattle.sip_transcript.specs.Replayed.{AreAsked, Begins, EndsBy, IsReplayed, TellsBehind, judged};
+ghost use Rattle.sip_transcript.specs.Replayed.{AreAsked, Begins, EndsBy, IsReplayed, TellsBehind};
+ghost use Rattle.sip_transcript.specs.Replayed.{judged};
 
 use crate::frames::next_byte;
 use crate::head::{Head, MOST_CHALLENGES, TranscriptReader};
@@ -23,8 +27,7 @@ use arrayvec::ArrayVec;
 use sip_field::{Field, M61};
 use sip_ports::{NullSink, Sink, Source};
 use sip_stream::Form;
-use sip_vector::Query;
-use sip_verifier::{Port, Seats, Session, SessionStart, Status, Task, conclude, follow};
+use sip_verifier::{Port, Seats, Session, SessionStart, Status, Task, conclude_session, follow};
 use sip_wire::Version;
 use std::alloc::Global;
 use std::marker::Brand;
@@ -42,8 +45,8 @@ fn elements(challenges: &[u64]) -> ArrayVec<M61, MOST_CHALLENGES>
     elements
 }
 
-/// The session of a head's queries at their challenges, over the stream of `first`, which is read to
-/// its end. What a run sends of it goes nowhere.
+/// The session of a head's queries at their challenges, over the stream of `first`, which is read
+/// to its end. What a run sends of it goes nowhere.
 #[inline(never)]
 fn begin<A: Source>(
     alloc: Global,
@@ -81,21 +84,18 @@ fn begin<A: Source>(
 /// ended, how many bytes were heard, and the source.
 fn replay<T: Loan, O: Origin, K: Sink>(
     session: &mut Session,
-    queries: &[Query],
     source: T,
     report: &mut K,
 ) -> (Result<(), Status>, u64, T)
     requires first { T.left source ≡ O.first }
     requires lent { T.loan source ≡ O.lent }
-    requires count { length session.old.left ≡ length queries.now }
-    requires most { length queries.now ≤ most_queries }
+    requires most { length session.old.left ≤ most_queries }
     requires live { session.old.spent ≡ false }
     ensures same { T.loan result.2 ≡ T.loan source }
     ensures replays { (bytes : List ℕ) → T.left source ≡ Some bytes
-        → IsReplayed session.old queries.now bytes (T.left result.2) result.1
-        (K.talk report.old) (K.talk report.new) result.0 }
+        → IsReplayed session.old bytes (T.left result.2) result.1 (K.talk report.old)
+        (K.talk report.new) result.0 }
     ensures wrote { (stream : List AnyUpdate)
-        → map (λ seat. seat.query) session.old.left ≡ queries.now
         → All (StandsFor session.old.depth stream) session.old.left
         → Reports (K.talk report.old) (K.talk report.new) }
     ensures told { IsSome (T.left source) → IsSome (T.left result.2) }
@@ -107,7 +107,7 @@ fn replay<T: Loan, O: Origin, K: Sink>(
     ensures report { Lasts K.faults K.wants K.is_sure report.old report.new }
 {
     let mut link: TranscriptLink<T, O> = TranscriptLink::new(source);
-    let ended = conclude(session, queries, &mut link, report, &mut NullSink::new());
+    let ended = conclude_session(session, &mut link, report, &mut NullSink::new());
     let taken = link.taken();
     (ended, taken, link.into_source())
 }
@@ -157,18 +157,15 @@ fn end<B: Source>(verdict: Status, place: Option<u64>, second: &mut B) -> Status
 /// [`replay`] over a source that comes back with what is left in it.
 fn replay_lent<B: Source, K: Sink>(
     session: &mut Session,
-    queries: &[Query],
     source: &mut B,
     report: &mut K,
 ) -> (Result<(), Status>, u64)
-    requires count { length session.old.left ≡ length queries.now }
-    requires most { length queries.now ≤ most_queries }
+    requires most { length session.old.left ≤ most_queries }
     requires live { session.old.spent ≡ false }
     ensures replays { (bytes : List ℕ) → B.left source.old ≡ Some bytes
-        → IsReplayed session.old queries.now bytes (B.left source.new) result.1
-        (K.talk report.old) (K.talk report.new) result.0 }
+        → IsReplayed session.old bytes (B.left source.new) result.1 (K.talk report.old)
+        (K.talk report.new) result.0 }
     ensures wrote { (stream : List AnyUpdate)
-        → map (λ seat. seat.query) session.old.left ≡ queries.now
         → All (StandsFor session.old.depth stream) session.old.left
         → Reports (K.talk report.old) (K.talk report.new) }
     ensures told { IsSome (B.left source.old) → IsSome (B.left source.new) }
@@ -179,7 +176,7 @@ fn replay_lent<B: Source, K: Sink>(
     ensures source { Lasts B.faults B.wants B.is_sure source.old source.new }
     ensures report { Lasts K.faults K.wants K.is_sure report.old report.new }
 {
-    let (ended, taken, _lent) = replay::<&mut B, Brand, K>(session, queries, source, report);
+    let (ended, taken, _lent) = replay::<&mut B, Brand, K>(session, source, report);
     (ended, taken)
 }
 
@@ -226,7 +223,7 @@ fn check<A: Source, B: Source, K: Sink>(
         Ok(session) => session,
         Err(status) => return status,
     };
-    let (ended, taken) = replay_lent(&mut *session, &task.queries, second, report);
+    let (ended, taken) = replay_lent(&mut *session, second, report);
     match judged(ended) {
         Ok(verdict) => end(verdict, length.checked_add(taken), second),
         Err(status) => status,

@@ -11,7 +11,8 @@ ghost use Rattle.sip_wire.specs.Transcript.{magic};
 ghost use Rattle.sip_wire.specs.Versions.{number_of};
 ghost use Rattle.sip_wire.specs.declared.message.Message.TheVariants as messages;
 ghost use Rattle.sip_verifier.specs.Tasks.{CanBeAsked};
-ghost use Rattle.sip_transcript.specs.Fields.{text_field, byte_field, query_field, element_field, is_version, is_depth, is_count, query_of};
+ghost use Rattle.sip_transcript.specs.Fields.{text_field, byte_field, query_field, element_field};
+ghost use Rattle.sip_transcript.specs.Fields.{is_version, is_depth, is_count, query_of};
 ghost use Rattle.sip_transcript.specs.Heads.{longest_field};
 ghost use Rattle.sip_transcript.specs.Parts.{AsksIn, ReadsField, MayAsk};
 

@@ -1,6 +1,7 @@
 //! What the fields of a head are like, and how the definitions are tied to each other.
 
-ghost use Rattle.std.specs.Prelude.{◌≡◌, ◌↔◌, ◌++◌, ◌∷◌, [], ℕ, All, List, Some, None, Option, Result, IsTrue, codes, take};
+ghost use Rattle.std.specs.Prelude.{◌≡◌, ◌↔◌, ◌++◌, ◌∷◌, [], ℕ, All, List, Some, None, Option};
+ghost use Rattle.std.specs.Prelude.{Result, IsTrue, codes, take};
 ghost use Rattle.std.specs.List.{flat_map};
 ghost use Rattle.sip_ports.specs.Ports.{HearsWhole, ReadsWhole, heard, outs};
 ghost use Rattle.sip_ports.specs.declared.port.PortStop.{PortStop as AnyStop};
@@ -66,8 +67,9 @@ pub fn converted_runs_are_told()
         → IsRun Two depth asks }
 {}
 
-/// Where `convert` writes all, it had the transcript of a run, and what it wrote is that of the same
-/// run in version 2: with its depth, queries, challenges and messages. One of version 2 is copied.
+/// Where `convert` writes all, it had the transcript of a run, and what it wrote is that of the
+/// same run in version 2: with its depth, queries, challenges and messages. One of version 2 is
+/// copied.
 pub fn one_run_is_converted()
     ensures written { (bytes text : List ℕ) (left : Option (List ℕ)) (had : List AnyEvent)
         → Writes in_version_2 bytes left (Some had) (Some (had ++ outs text)) statuses.Wrote
@@ -76,8 +78,9 @@ pub fn one_run_is_converted()
         → run_in_version_2 run ≡ bytes }
 {}
 
-/// A transcript has one head: where bytes begin with the heads of two runs, these are one, and so is
-/// what stands behind them. So an audit replays the run that the transcript tells of, and no other.
+/// A transcript has one head: where bytes begin with the heads of two runs, these are one, and so
+/// is what stands behind them. So an audit replays the run that the transcript tells of, and no
+/// other.
 pub fn a_transcript_has_one_head()
     ensures { (version other : AnyVersion) (depth levels : ℕ) (asks others : List Ask)
         (behind rest : List ℕ) → IsRun version depth asks → IsRun other levels others
@@ -85,20 +88,21 @@ pub fn a_transcript_has_one_head()
         → (other ≡ version) × (levels ≡ depth) × (others ≡ asks) × (rest ≡ behind) }
 {}
 
-/// What was heard determines the report: two runs of one inquiry over one stream that were accepted,
-/// of which one heard what the other did and maybe more, heard the same and wrote the same lines. So
-/// where an audit accepts the transcript of an accepted run it writes the lines of that run.
+/// What was heard determines the report: two runs of one inquiry over one stream that were
+/// accepted, of which one heard what the other did and maybe more, heard the same and wrote the
+/// same lines. So where an audit accepts the transcript of an accepted run it writes the lines of
+/// that run.
 pub fn accepted_runs_agree()
     ensures { (i : AnyInquiry) (x y : AnyExchange) (more : List ℕ) → y.stream ≡ x.stream
         → heard x.talk ≡ heard y.talk ++ more → AllWritten i x → AllWritten i y
         → (more ≡ []) × (y.report ≡ x.report) }
 {}
 
-/// An audit of what a run left agrees with the run. Let a run of `verify` have ended with a verdict,
-/// and let `audit` keep its promises over the transcript that the run kept and the stream that it
-/// read. Then it gives the same status and writes the same lines, unless one of its ports failed or
-/// memory ran out. So it finds no fault in the transcript or in the stream, no query too wide, no
-/// byte behind the verdict, and no other verdict.
+/// An audit of what a run left agrees with the run. Let a run of `verify` have ended with a
+/// verdict, and let `audit` keep its promises over the transcript that the run kept and the stream
+/// that it read. Then it gives the same status and writes the same lines, unless one of its ports
+/// failed or memory ran out. So it finds no fault in the transcript or in the stream, no query too
+/// wide, no byte behind the verdict, and no other verdict.
 pub fn audits_agree()
     ensures { (task : AnyTask) (x : AnyExchange) (before now : AnyCounts) (status : AnyStatus)
         (a : Audit) (earlier later : AnyCounts) (given : AnyStatus)
@@ -148,8 +152,8 @@ pub fn a_transcript_by_hand()
     ensures no_head { text_of listing (take 34 head_by_hand) ≡ [] }
 {}
 
-/// On a new link whose replies come out of a source that tells its bytes, a whole receive is a whole
-/// read of the source.
+/// On a new link whose replies come out of a source that tells its bytes, a whole receive is a
+/// whole read of the source.
 #[tactic(auto, using(crate::proofs::Replaying::whole_receive))]
 pub fn a_whole_receive_is_a_whole_read()
     ensures { (bytes : List ℕ) (left : Option (List ℕ)) (talk : List AnyEvent)

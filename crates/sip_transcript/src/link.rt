@@ -73,7 +73,8 @@ impl<T: Loan, O: Origin> Sink for TranscriptLink<T, O> {
     ghost use Rattle.std.specs.Prelude.{Some, ◌<◌, ◌≡◌, ◌^◌, length, IfOk};
     ghost use Rattle.std.specs.Io.{WritesAtMost};
     ghost use Rattle.sip_ports.specs.Ports.{HasCause, Sends, StandsStill};
-    ghost use Rattle.sip_transcript.specs.Links.{link_faults, link_is_sure, link_source, link_talk, link_wants};
+    ghost use Rattle.sip_transcript.specs.Links.{link_faults, link_is_sure, link_source, link_talk};
+    ghost use Rattle.sip_transcript.specs.Links.{link_wants};
 
     ghost talk = { λ link. Some (link_talk link) };
 
@@ -110,7 +111,8 @@ impl<T: Loan, O: Origin> Link for TranscriptLink<T, O> {
     ghost use Rattle.std.specs.Io.{ReadsAtMost};
     ghost use Rattle.std.specs.Io.KnownBytes.{ReadConsumes};
     ghost use Rattle.sip_ports.specs.Ports.{HasCause, Hears, StandsStill};
-    ghost use Rattle.sip_transcript.specs.Links.{link_faults, link_is_sure, link_left, link_talk, link_wants};
+    ghost use Rattle.sip_transcript.specs.Links.{link_faults, link_is_sure, link_left, link_talk};
+    ghost use Rattle.sip_transcript.specs.Links.{link_wants};
 
     fn recv(&mut self, buf: &mut [u8]) -> Result<usize, PortStop>
         ensures bound { ReadsAtMost result buf.new }

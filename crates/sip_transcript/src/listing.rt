@@ -7,7 +7,8 @@ ghost use Rattle.sip_ports.specs.Ports.{HasCause, SendsWhole};
 ghost use Rattle.sip_wire.specs.Frames.{frame_bytes};
 ghost use Rattle.sip_wire.specs.Spelling.{fits, spelling};
 ghost use Rattle.sip_wire.specs.declared.version.Version.{Version as AnyVersion};
-ghost use Rattle.sip_transcript.specs.Listings.{body_text, challenge_text, depth_line, frame_line, message_name, query_front, query_line};
+ghost use Rattle.sip_transcript.specs.Listings.{body_text, challenge_text, depth_line, frame_line};
+ghost use Rattle.sip_transcript.specs.Listings.{message_name, query_front, query_line};
 
 use arrayvec::ArrayVec;
 use sip_ports::{PortStop, Sink, write_whole};
@@ -121,8 +122,8 @@ fn name(message: &Message) -> &'static str
     }
 }
 
-/// What stands in the line of a frame before the digits of this body: its message's name, and a dash
-/// where the body is empty.
+/// What stands in the line of a frame before the digits of this body: its message's name, and a
+/// dash where the body is empty.
 fn begin(message: &Message, body: &[u8]) -> ArrayVec<u8, LINE>
     ensures items { result.items ++ encode_lower body.now
         ≡ codes "frame " ++ message_name message.now ++ codes " " ++ body_text body.now }

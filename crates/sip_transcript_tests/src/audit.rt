@@ -4,10 +4,10 @@
 ghost use Rattle.std.specs.Prelude.{◌≤◌};
 
 use crate::audit_frames::*;
-use crate::case::Case;
 use sip_cli::exit_code;
+use sip_command_tests::case::Case;
 use sip_command_tests::frames::*;
-use sip_command_tests::row::{Given, bytes_of};
+use sip_command_tests::row::{RunInput, bytes_of};
 use sip_command_tests::sum_frames::*;
 use sip_verifier::Status;
 use std::alloc::Global;
@@ -92,8 +92,8 @@ pub const SHARE: &[&[u8]] = &[
 pub type Stored<'a> = (&'a str, &'a [u8], &'a [&'a [u8]], Status, &'a [u8]);
 
 // Nothing is said on the link.
-pub fn given<'a>(words: &'a str, stream: &'a [u8], transcript: &'a [u8]) -> Given<'a> {
-    Given {
+pub fn given<'a>(words: &'a str, stream: &'a [u8], transcript: &'a [u8]) -> RunInput<'a> {
+    RunInput {
         words,
         stream,
         seed: transcript,
@@ -113,7 +113,7 @@ fn code_of(status: &Status) -> u8 {
 fn check_in(
     rt: &impl Abort,
     alloc: Global,
-    given: &Given,
+    given: &RunInput,
     chunk: usize,
     status: Status,
     report: &[u8],
@@ -125,10 +125,12 @@ fn check_in(
         name: given.words,
         number: chunk as u64,
     };
-    case.ends(rt, shown.status, status);
-    case.holds(rt, exit_code(&shown.status) == code_of(&status));
-    case.writes(rt, shown.report.bytes(), report);
-    case.says(rt, shown.peer.talk(), &[]);
+    case.ends(shown.status, status).expect(rt, "a case");
+    case.holds(exit_code(&shown.status) == code_of(&status))
+        .expect(rt, "a case");
+    case.writes(shown.report.bytes(), report)
+        .expect(rt, "a case");
+    case.says(shown.peer.talk(), &[]).expect(rt, "a case");
     Ok(())
 }
 

@@ -2,7 +2,7 @@
 
 use crate::audit::{check_stored, given};
 use crate::audit_frames::*;
-use crate::case::Case;
+use sip_command_tests::case::Case;
 use sip_command_tests::frames::*;
 use sip_command_tests::heavy_frames::*;
 use sip_command_tests::play::BOTH_SIDES;
@@ -305,7 +305,7 @@ fn check_converted(
         name: line,
         number: 2,
     };
-    case.ends(rt, shown.status, Status::Wrote);
+    case.ends(shown.status, Status::Wrote).expect(rt, "a case");
     let converted: &[&[u8]] = &[shown.report.bytes()];
     let stored = (AUDIT, BOTH_SIDES, converted, status, line.as_bytes());
     check_stored(rt, alloc, &stored)

@@ -2,10 +2,10 @@
 
 use crate::audit::{FIVE_KINDS, FIVE_WIDE_KINDS, SHARE, Stored, check_each, check_stored, given};
 use crate::audit_frames::*;
-use crate::case::Case;
+use sip_command_tests::case::Case;
 use sip_command_tests::frames::*;
 use sip_command_tests::play::{BOTH_SIDES, Played, run_play};
-use sip_command_tests::row::{At, Failing, Given, bytes_of};
+use sip_command_tests::row::{At, Failing, RunInput, bytes_of};
 use sip_command_tests::sum_frames::F2;
 use sip_stream::Why;
 use sip_verifier::{Port, Status};
@@ -254,8 +254,9 @@ const RUNS: &[Run<'static>] = &[
 fn kept(rt: &impl Abort, alloc: Global, &(name, status, lines): &Run) -> Result<Played, Fail> {
     let shown = run_play(alloc, name)?;
     let case = Case { name, number: 0 };
-    case.holds(rt, shown.ended == Some(status));
-    case.writes(rt, shown.report.bytes(), lines.as_bytes());
+    case.holds(shown.ended == Some(status)).expect(rt, "a case");
+    case.writes(shown.report.bytes(), lines.as_bytes())
+        .expect(rt, "a case");
     Ok(shown)
 }
 
@@ -304,8 +305,9 @@ fn check_ends(rt: &impl Abort, alloc: Global, run: &Run) -> Result<(), Fail> {
         name: "show t",
         number: 0,
     };
-    case.ends(rt, shown.status, Status::Wrote);
-    case.holds(rt, shown.report.bytes().starts_with(b"depth 2\n"));
+    case.ends(shown.status, Status::Wrote).expect(rt, "a case");
+    case.holds(shown.report.bytes().starts_with(b"depth 2\n"))
+        .expect(rt, "a case");
     Ok(())
 }
 
@@ -339,7 +341,7 @@ const CALLS: &[Calls] = &[
     (At::Keep, 0, Status::Accepted),
 ];
 
-fn check_calls(rt: &impl Abort, alloc: Global, given: &Given, calls: Calls) -> Result<(), Fail> {
+fn check_calls(rt: &impl Abort, alloc: Global, given: &RunInput, calls: Calls) -> Result<(), Fail> {
     let (at, count, fault) = calls;
     for number in 1..=count {
         let shown = given.run(alloc, 1, Some(Failing { at, number }))?;
@@ -347,8 +349,9 @@ fn check_calls(rt: &impl Abort, alloc: Global, given: &Given, calls: Calls) -> R
             name: "a call fails",
             number,
         };
-        case.ends(rt, shown.status, fault);
-        case.holds(rt, b"sub:1:2 2:5\n".starts_with(shown.report.bytes()));
+        case.ends(shown.status, fault).expect(rt, "a case");
+        case.holds(b"sub:1:2 2:5\n".starts_with(shown.report.bytes()))
+            .expect(rt, "a case");
     }
     let number = count.saturating_add(1);
     let shown = given.run(alloc, 1, Some(Failing { at, number }))?;
@@ -356,7 +359,8 @@ fn check_calls(rt: &impl Abort, alloc: Global, given: &Given, calls: Calls) -> R
         name: "no call is to fail",
         number,
     };
-    case.ends(rt, shown.status, Status::Accepted);
+    case.ends(shown.status, Status::Accepted)
+        .expect(rt, "a case");
     Ok(())
 }
 

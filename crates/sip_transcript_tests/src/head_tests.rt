@@ -2,6 +2,7 @@
 
 ghost use Rattle.std.specs.Prelude.{◌≤◌};
 
+use crate::audit_frames::{TALK, WIDE};
 use crate::facts::expect;
 use sip_ports::{MemorySink, MemorySource, Source};
 use sip_transcript::{HeadFault, TranscriptReader, show};
@@ -11,27 +12,6 @@ use sip_wire::Version;
 use std::alloc::Global;
 use std::process::Abort;
 use std::test::Fail;
-
-// One query at depth 2, for the items 1 to 2, at the challenges 2 and 10; an entry, two siblings,
-// and no sibling.
-const TALK: [u8; 76] = [
-    b'S', b'I', b'P', b'T', 1, 2, 1, //
-    4, 0, 9, 1, 0, 0, 0, 1, 0, 0, 0, 2, //
-    0, 0, 0, 0, 0, 0, 0, 2, 0, 0, 0, 0, 0, 0, 0, 10, //
-    0x13, 0, 0x0e, 0, 1, 0, 0, 0, 2, 0, 0, 0, 0, 0, 0, 0, 5, //
-    0x14, 0, 0x11, 3, 0, 0, 0, 0, 0, 0, 0, 3, 0, 0, 0, 0, 0, 0, 0, 1, //
-    0x14, 0, 1, 0,
-];
-
-// The same in version 2.
-const WIDE: [u8; 88] = [
-    b'S', b'I', b'P', b'T', 2, 2, 1, //
-    4, 0, 17, 1, 0, 0, 0, 0, 0, 0, 0, 1, 0, 0, 0, 0, 0, 0, 0, 2, //
-    0, 0, 0, 0, 0, 0, 0, 2, 0, 0, 0, 0, 0, 0, 0, 10, //
-    0x13, 0, 0x12, 0, 1, 0, 0, 0, 0, 0, 0, 0, 2, 0, 0, 0, 0, 0, 0, 0, 5, //
-    0x14, 0, 0x11, 3, 0, 0, 0, 0, 0, 0, 0, 3, 0, 0, 0, 0, 0, 0, 0, 1, //
-    0x14, 0, 1, 0,
-];
 
 // Two queries at depth 1: a share of side 1, at the challenge 2^61 - 2, and the inner product, at
 // the challenge 0.

@@ -11,8 +11,6 @@ mod audit_frames;
 #[cfg(test)]
 mod audit_tests;
 #[cfg(test)]
-mod case;
-#[cfg(test)]
 mod facts;
 #[cfg(test)]
 mod head_tests;

@@ -1,22 +1,12 @@
 // The commands that read a transcript.
 
 use crate::audit::{FIVE_KINDS, FIVE_WIDE_KINDS, SHARE, Stored, check_each};
+use crate::audit_frames::{TALK, WIDE};
 use sip_command_tests::row::bytes_of;
 use sip_verifier::Status;
 use std::test::Fail;
 
-// One query at depth 2, for the items 1 to 2, at the challenges 2 and 10; an entry, two siblings,
-// and no sibling.
-const TALK: [u8; 76] = [
-    b'S', b'I', b'P', b'T', 1, 2, 1, //
-    4, 0, 9, 1, 0, 0, 0, 1, 0, 0, 0, 2, //
-    0, 0, 0, 0, 0, 0, 0, 2, 0, 0, 0, 0, 0, 0, 0, 10, //
-    0x13, 0, 0x0e, 0, 1, 0, 0, 0, 2, 0, 0, 0, 0, 0, 0, 0, 5, //
-    0x14, 0, 0x11, 3, 0, 0, 0, 0, 0, 0, 0, 3, 0, 0, 0, 0, 0, 0, 0, 1, //
-    0x14, 0, 1, 0,
-];
-
-// Its first 75 bytes.
+// The first 75 bytes of `TALK`.
 const CUT_IN_A_FRAME: [u8; 75] = [
     b'S', b'I', b'P', b'T', 1, 2, 1, //
     4, 0, 9, 1, 0, 0, 0, 1, 0, 0, 0, 2, //
@@ -43,17 +33,7 @@ const LONGER: [u8; 77] = [
     0x14, 0, 1, 0, 0,
 ];
 
-// It in version 2.
-const WIDE: [u8; 88] = [
-    b'S', b'I', b'P', b'T', 2, 2, 1, //
-    4, 0, 17, 1, 0, 0, 0, 0, 0, 0, 0, 1, 0, 0, 0, 0, 0, 0, 0, 2, //
-    0, 0, 0, 0, 0, 0, 0, 2, 0, 0, 0, 0, 0, 0, 0, 10, //
-    0x13, 0, 0x12, 0, 1, 0, 0, 0, 0, 0, 0, 0, 2, 0, 0, 0, 0, 0, 0, 0, 5, //
-    0x14, 0, 0x11, 3, 0, 0, 0, 0, 0, 0, 0, 3, 0, 0, 0, 0, 0, 0, 0, 1, //
-    0x14, 0, 1, 0,
-];
-
-// Its first 84 bytes.
+// The first 84 bytes of `WIDE`.
 const WIDE_CUT: [u8; 84] = [
     b'S', b'I', b'P', b'T', 2, 2, 1, //
     4, 0, 17, 1, 0, 0, 0, 0, 0, 0, 0, 1, 0, 0, 0, 0, 0, 0, 0, 2, //

@@ -1,8 +1,7 @@
 -- Blocks of updates: the weights that tables of products give, and what a root stands for after
 -- each update.
-use Rattle.std.proofs.Common.{◌≡◌, ℕ, ◌+◌, ◌-◌, ◌*◌, ◌/◌, ◌%◌, ◌^◌, ◌<◌, ◌≤◌, ◌==◌, if◌then◌else◌, ℤ, ◌+ℤ◌, List, [], ◌∷◌, length, get_or, take, fold, refl, sym, ◌∙◌, ap, subst, arith}
+use Rattle.std.proofs.Common.{◌≡◌, ℕ, ◌+◌, ◌*◌, ◌/◌, ◌%◌, ◌^◌, ◌<◌, ◌==◌, if◌then◌else◌, ℤ, ◌+ℤ◌, List, [], ◌∷◌, length, get_or, take, refl, sym, ◌∙◌, ap, subst}
 use Rattle.std.specs.Prelude.{All}
-use Rattle.std.proofs.Math.Nat.{mod-mod, mod-eq_of_lt}
 use Rattle.std.proofs.lemmas.List.Elements.{All-head, All-tail}
 use Rattle.std.proofs.lemmas.List.Sums.{fold_more}
 use Rattle.sip_field.specs.Residue.{residue}
@@ -10,35 +9,12 @@ use Rattle.sip_field.specs.Products.{zero_factor, bits_product}
 use Rattle.sip_field.specs.declared.factors.Factors.TheVariants.{Tree}
 use Rattle.sip_vector.specs.Weights.{raised_numbers, numbers_after, node_weight, hash_weight}
 use Rattle.sip_vector.specs.declared.update.Update.{Update}
-use Rattle.sip_vector.proofs.TreeResidues.{mod_plus}
+pub use Rattle.sip_vector.proofs.RunningSums.{one_more, sum_begins, sum_grows, sum_more}
+use Rattle.sip_vector.proofs.RunningSums.{after_same, product_term}
+use Rattle.sip_vector.specs.Running.{number_after}
 use Rattle.sip_tree.specs.Blocks.{root_after, hash_after, total_after}
 use Rattle.sip_tree.specs.StandsFor.{RootStandsFor, AugRootStandsFor}
 use Rattle.sip_tree.proofs.StandsLemmas.{root_stands, augroot_stands}
-
--- a sum that keeps the residue of a number: how it begins, and how it grows by numbers of 64 bits
-pub sum_begins : (p sum x : ℕ) → sum ≡ x → x < p → p ≤ 2 ^ 61 - 1 → (sum < (0 + 1) * 2 ^ 64) × (sum % p ≡ x)
-sum_begins p sum x is small most = (omega (arith, is, small, most), ap (λ y. y % p) is ∙ mod-eq_of_lt small)
-
-pub sum_grows : (n k sum x : ℕ) → k < n → n < 2 ^ 64 → sum < (k + 1) * 2 ^ 64 → x < 2 ^ 64 → (sum + x < 2 ^ 128) × (sum + x < (k + 1 + 1) * 2 ^ 64)
-sum_grows n k sum x here short most more = (omega (arith, here, short, most, more), omega (arith, most, more))
-
--- a number to which each update adds its term
-module _ (p : ℕ) (term : Update → ℕ) where
-  abbrev pub after : ℕ → List Update → ℕ
-  after value updates = fold (λ v u. (v + term u) % p) value updates
-
-  -- one update more
-  pub one_more : (value : ℕ) (updates : List Update) (k : ℕ) (d : Update) (old new : ℕ) → k < length updates →
-      old ≡ after value (take k updates) → new ≡ (old + term (get_or updates k d)) % p → new ≡ after value (take (k + 1) updates)
-  one_more value updates k d old new within before is =
-      let add : ℕ → Update → ℕ = λ v u. (v + term u) % p in
-      is ∙ ap (λ v. add v (get_or updates k d)) before ∙ sym (fold_more add value updates k d within)
-
-  -- and one more of a sum that keeps the number's residue
-  pub sum_more : (value : ℕ) (updates : List Update) (k : ℕ) (d : Update) (sum x : ℕ) → k < length updates →
-      sum % p ≡ after value (take k updates) → x % p ≡ term (get_or updates k d) % p → (sum + x) % p ≡ after value (take (k + 1) updates)
-  sum_more value updates k d sum x within before is =
-      one_more value updates k d (sum % p) ((sum + x) % p) within before (mod_plus p sum (sum % p) x (term (get_or updates k d)) (sym (mod-mod sum p)) is)
 
 -- the terms of a root and of an augmented root
 abbrev pub root_term : ℕ → List ℕ → Update → ℕ
@@ -51,6 +27,13 @@ hash_term p challenges u = residue p u.delta * hash_weight p u.item challenges
 pub weight_is_product : (p i : ℕ) (challenges : List ℕ) → bits_product p (zero_factor p Tree) i challenges ≡ node_weight p i challenges
 weight_is_product p i [] = refl
 weight_is_product p i (r ∷ challenges) = ap (λ w. ((if i % 2 == 1 then r else 1) * w) % p) (weight_is_product p (i / 2) challenges)
+
+-- a root is a running number in which an entry counts by a product
+pub root_is_products : (p : ℕ) (challenges : List ℕ) (value : ℕ) (updates : List Update) →
+    number_after p (zero_factor p Tree) challenges value updates ≡ root_after p challenges value updates
+root_is_products p challenges =
+    after_same p (product_term p (zero_factor p Tree) challenges) (root_term p challenges)
+    (λ u. ap (λ w. residue p u.delta * w) (weight_is_product p u.item challenges))
 
 module _ (p : ℕ) (challenges : List ℕ) where
   -- a root stands for the numbers after the updates that it got

@@ -1,5 +1,6 @@
 -- Tables of the steps that a hash takes from level to level.
-use Rattle.std.specs.Prelude.{◌≡◌, ℕ, zero, suc, ◌+◌, ◌*◌, ◌%◌, ◌^◌, ◌<◌, ℤ, pos, negsuc, List, [], length, take, drop, slice_index_or}
+use Rattle.std.specs.Prelude.{◌≡◌, ℕ, zero, suc, ◌+◌, ◌*◌, ◌%◌, ◌^◌, ◌<◌, ℤ, pos, negsuc, List, []}
+use Rattle.std.specs.Prelude.{length, take, drop, slice_index_or}
 use Rattle.sip_vector.specs.Weights.{hash_weight_from}
 use Rattle.sip_tree.specs.declared.steps.Step.{Step}
 

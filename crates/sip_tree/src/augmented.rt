@@ -1,5 +1,6 @@
 //! The root of a vector's augmented tree, as two running numbers.
-ghost use Rattle.std.specs.Prelude.{◌≡◌, ℕ, ◌+◌, ◌*◌, ◌%◌, ◌^◌, ◌<◌, ◌≤◌, ℤ, pos, ◌+ℤ◌, nat_abs, List, ◌++◌, All, take, length, min, replicate};
+ghost use Rattle.std.specs.Prelude.{◌≡◌, ℕ, ◌+◌, ◌*◌, ◌%◌, ◌^◌, ◌<◌, ◌≤◌, ℤ, pos, ◌+ℤ◌, nat_abs};
+ghost use Rattle.std.specs.Prelude.{List, ◌++◌, All, take, length, min, replicate};
 ghost use Rattle.sip_field.specs.Residue.{residue};
 ghost use Rattle.sip_tree.specs.Blocks.{hash_after, total_after};
 ghost use Rattle.sip_tree.specs.StandsFor.{AugRootStandsFor};

@@ -1,11 +1,14 @@
 //! Laws of both trees. These functions do nothing: each contract is a fact that holds.
-ghost use Rattle.std.specs.Prelude.{◌≡◌, ℕ, ◌+◌, ◌-◌, ◌*◌, ◌%◌, ◌^◌, ◌<◌, ◌≤◌, ℤ, pos, ◌+ℤ◌, List, [], ◌∷◌, ◌++◌, true, false, length, map, take, replicate, slice_index};
+ghost use Rattle.std.specs.Prelude.{◌≡◌, ℕ, ◌+◌, ◌-◌, ◌*◌, ◌%◌, ◌^◌, ◌<◌, ◌≤◌, ℤ, pos, ◌+ℤ◌, List};
+ghost use Rattle.std.specs.Prelude.{[], ◌∷◌, ◌++◌, true, false, length, map, take, replicate};
+ghost use Rattle.std.specs.Prelude.{slice_index};
 ghost use Rattle.sip_field.specs.Moduli.{m61_modulus};
 ghost use Rattle.sip_field.specs.Residue.{residue};
 ghost use Rattle.sip_vector.specs.Lines.{added_numbers, IsLinear, AddsUp};
 ghost use Rattle.sip_vector.specs.Streams.{same_side, vector};
 ghost use Rattle.sip_vector.specs.Trees.{up, tree, root, augroot};
-ghost use Rattle.sip_vector.specs.Weights.{raised_numbers, node_weight, weight_above, weighted_sum, hash_weight};
+ghost use Rattle.sip_vector.specs.Weights.{raised_numbers, node_weight, weight_above, weighted_sum};
+ghost use Rattle.sip_vector.specs.Weights.{hash_weight};
 ghost use Rattle.sip_vector.specs.declared.update.Side.{Side as AnySide};
 ghost use Rattle.sip_vector.specs.declared.update.Update.{Update as AnyUpdate};
 

@@ -27,8 +27,8 @@
 //! both streams.
 //!
 //! [`laws`] has the facts of the definitions alone: what a raised entry does to a root, that roots
-//! add up, that the root is the sum of a level's nodes each times its weight, that a fold keeps such
-//! a sum, and what an update does to the vector of a stream.
+//! add up, that the root is the sum of a level's nodes each times its weight, that a fold keeps
+//! such a sum, and what an update does to the vector of a stream.
 //!
 //! # Cost
 //!
@@ -39,17 +39,16 @@
 //!
 //! | Call | `times` | Beside it |
 //! |---|---|---|
-//! | `new` of each, `Root::value`, `AugRoot::hash`, `AugRoot::total`, `SplitRoot::hash`, `SplitRoot::weight` | 0 | |
-//! | `Root::update` | one for each bit that is 1, d at most | d steps along the bits, one `of_signed` and one `plus` |
-//! | `Root::update_all` of 32 and more | one for an update and 7 challenges, and 127 for 7 challenges | an `of_signed` and a `plus` for an update |
+//! | `new` of each, and what shows its numbers | 0 | |
+//! | `Root::update` | one for each bit that is 1 | d steps, one `of_signed` and one `plus` |
+//! | `Root::update_all` of n, 32 and more | (n + 127) · d / 7 | a few additions for each |
 //! | `absorb` of each | 0 | one `plus` |
-//! | `Root::weight_above` | one for each bit that is 1, d - level at most | d - level steps along the bits |
-//! | `AugRoot::update`, `SplitRoot::update` | two for each bit that is 1, and one: 2d + 1 at most | d steps along the bits, each with one `plus`; one `of_signed` |
-//! | `AugRoot::update_all`, `SplitRoot::update_all` of 32 and more | one for an update and 7 challenges, and 261 for 7 challenges | an `of_signed` for an update and a sum for each of its `times`, and 127 `plus` for 7 challenges |
+//! | `Root::weight_above` | one for each bit that is 1 | d - level steps |
+//! | `update` of the two others | two for each bit that is 1, and one | d steps, each a `plus` |
+//! | `update_all` of them, of n, 32 and more | (n + 261) · d / 7 | as many `plus`, n `of_signed` |
 //! | `up` | n / 2 | n / 2 `plus` |
 #![tactic(auto)]
 
-mod adding;
 mod augmented;
 mod fold;
 mod hashing;

@@ -1,5 +1,6 @@
 //! The root of a vector's tree, as a running number.
-ghost use Rattle.std.specs.Prelude.{◌≡◌, ℕ, ◌+◌, ◌-◌, ◌*◌, ◌%◌, ◌^◌, ◌<◌, ◌≤◌, ℤ, pos, List, ◌++◌, All, length, min, replicate};
+ghost use Rattle.std.specs.Prelude.{◌≡◌, ℕ, ◌+◌, ◌-◌, ◌*◌, ◌%◌, ◌^◌, ◌<◌, ◌≤◌, ℤ, pos, List, ◌++◌};
+ghost use Rattle.std.specs.Prelude.{All, length, min, replicate};
 ghost use Rattle.sip_field.specs.Residue.{residue};
 ghost use Rattle.sip_tree.specs.Blocks.{root_after};
 ghost use Rattle.sip_tree.specs.StandsFor.{RootStandsFor};
@@ -8,12 +9,12 @@ ghost use Rattle.sip_vector.specs.Lines.{added_numbers};
 ghost use Rattle.sip_vector.specs.Streams.{vector};
 ghost use Rattle.sip_vector.specs.declared.update.Side.{Side as AnySide};
 ghost use Rattle.sip_vector.specs.declared.update.Update.{Update as AnyUpdate};
-ghost use Rattle.sip_vector.specs.Weights.{raised_numbers, numbers_after, node_weight, weight_above};
+ghost use Rattle.sip_vector.specs.Weights.{raised_numbers, numbers_after, node_weight};
+ghost use Rattle.sip_vector.specs.Weights.{weight_above};
 
-use crate::adding::added_by_tables;
 use crate::weight::weighted;
 use sip_field::{Factors, Field, Seat, fill_tables};
-use sip_vector::Update;
+use sip_vector::{Update, added_by_tables};
 
 /// The shortest block for which tables are made: below it they cost more than they save.
 const BLOCK: usize = 32;

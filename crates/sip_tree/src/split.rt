@@ -1,5 +1,6 @@
 //! The root of the split tree over the values and the weights of a vector, as two running numbers.
-ghost use Rattle.std.specs.Prelude.{◌≡◌, ℕ, ◌+◌, ◌*◌, ◌%◌, ◌^◌, ◌<◌, ◌≤◌, ℤ, pos, nat_abs, List, ◌++◌, All, map, length, min, replicate};
+ghost use Rattle.std.specs.Prelude.{◌≡◌, ℕ, ◌+◌, ◌*◌, ◌%◌, ◌^◌, ◌<◌, ◌≤◌, ℤ, pos, nat_abs, List};
+ghost use Rattle.std.specs.Prelude.{◌++◌, All, map, length, min, replicate};
 ghost use Rattle.sip_tree.specs.Blocks.{split_term, split_after, weight_after};
 ghost use Rattle.sip_tree.specs.StandsFor.{SplitRootStandsFor};
 ghost use Rattle.sip_vector.specs.Limits.{most_depth};
@@ -19,9 +20,9 @@ use sip_vector::Update;
 /// The shortest block for which tables are made: below it they cost more than they save.
 const BLOCK: usize = 32;
 
-/// The root of the split tree over 2^d values and as many weights, for the d challenges of a seat: a
-/// hash, and the sum of the weights. An update raises a value by its delta and a weight by the size
-/// of that, so that weights only grow.
+/// The root of the split tree over 2^d values and as many weights, for the d challenges of a seat:
+/// a hash, and the sum of the weights. An update raises a value by its delta and a weight by the
+/// size of that, so that weights only grow.
 #[derive(Drop)]
 pub struct SplitRoot<F: Field, const CAP: usize> {
     /// The challenges, the lowest level's first.
@@ -110,8 +111,8 @@ impl<F: Field, const CAP: usize> SplitRoot<F, CAP> {
         }
     }
 
-    /// The root of the entrywise sums, where `other` is that of more values and weights for the same
-    /// challenges: so what two roots were fed with apart adds up, in any order.
+    /// The root of the entrywise sums, where `other` is that of more values and weights for the
+    /// same challenges: so what two roots were fed with apart adds up, in any order.
     ///
     /// One `plus`, and no memory.
     pub fn absorb(&mut self, other: &SplitRoot<F, CAP>)

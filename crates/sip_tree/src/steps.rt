@@ -1,5 +1,6 @@
 //! What a seat's levels make of a hash, worked out once for many updates.
-ghost use Rattle.std.specs.Prelude.{◌≡◌, ℕ, List, ◌+◌, ◌*◌, ◌/◌, ◌%◌, ◌^◌, ◌<◌, ◌≤◌, All, length, take, drop};
+ghost use Rattle.std.specs.Prelude.{◌≡◌, ℕ, List, ◌+◌, ◌*◌, ◌/◌, ◌%◌, ◌^◌, ◌<◌, ◌≤◌, All, length};
+ghost use Rattle.std.specs.Prelude.{take, drop};
 ghost use Rattle.sip_field.specs.Residue.{residue};
 ghost use Rattle.sip_tree.specs.Steps.{HasSteps, AreStepTables, IsBelow, sign};
 ghost use Rattle.sip_vector.specs.Weights.{hash_weight, hash_weight_from};
@@ -13,13 +14,13 @@ pub(crate) struct Step {
     pub(crate) shift: u64,
 }
 
-/// The steps for at most seven levels, those above `from`, of a hash that is `start + h`. Entry e is
-/// the step of the levels along the bits of e, the lowest bit first, for each e below 2^n, where
+/// The steps for at most seven levels, those above `from`, of a hash that is `start + h`. Entry e
+/// is the step of the levels along the bits of e, the lowest bit first, for each e below 2^n, where
 /// there are n levels. They are made where they are to lie, whatever residues lie there: a table is
 /// too large to be moved about, or to be filled twice.
 ///
 /// Two `times` for each pair, and one for each level.
-pub(crate) fn steps<F: Field, const CAP: usize>(
+pub(crate) fn level_steps<F: Field, const CAP: usize>(
     table: &mut [Step; 128],
     seat: &Seat<F, CAP>,
     from: usize,
@@ -78,9 +79,9 @@ pub(crate) fn fill_steps<F: Field, const CAP: usize>(
 {
     // A seat without challenges has a table too, so that there is always a first one.
     let count = 1 + seat.depth().saturating_sub(1) / 7;
-    steps(&mut tables[0], seat, 0, 1);
+    level_steps(&mut tables[0], seat, 0, 1);
     for group in 1..count {
-        steps(&mut tables[group], seat, 7 * group, 0);
+        level_steps(&mut tables[group], seat, 7 * group, 0);
     }
     count
 }

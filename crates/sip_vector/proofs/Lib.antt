@@ -16,7 +16,9 @@ pub mod Filters
 pub mod SpotsAbove
 pub mod Searches
 pub mod Walks
+pub mod LastEntry
 pub mod TreeResidues
+pub mod RunningSums
 pub mod TreeUpdates
 pub mod TreeCounted
 pub mod TreeZeros

@@ -1,12 +1,14 @@
 -- What each query asks for: sums and filters over whole vectors.
-use Rattle.std.specs.Prelude.{ℕ, ◌^◌, ◌<◌, ◌≤◌, Bool, not, ◌&&◌, ◌==◌, nat_le, ⊤, ℤ, pos, ◌*ℤ◌, nat_abs, int_le, List, map, filter}
+use Rattle.std.specs.Prelude.{ℕ, ◌^◌, ◌<◌, ◌≤◌, Bool, not, ◌&&◌, ◌==◌, nat_le, ⊤, ℤ, pos, ◌*ℤ◌}
+use Rattle.std.specs.Prelude.{nat_abs, int_le, List, map, filter}
 use Rattle.std.specs.List.{enumerate_from, zip}
 use Rattle.sip_vector.specs.declared.update.Side.{Side}
 use Rattle.sip_vector.specs.declared.update.Side.TheVariants.{First, Second}
 use Rattle.sip_vector.specs.declared.update.Update.{Update}
 use Rattle.sip_vector.specs.declared.update.Entry.{Entry}
 use Rattle.sip_vector.specs.declared.query.Query.{Query}
-use Rattle.sip_vector.specs.declared.query.Query.TheVariants.{Sub, Range, F2, Inner, Heavy, Share, Above}
+use Rattle.sip_vector.specs.declared.query.Query.TheVariants.{Sub, Range, F2, Inner, Heavy, Share}
+use Rattle.sip_vector.specs.declared.query.Query.TheVariants.{Above}
 use Rattle.sip_vector.specs.Limits.{most_share}
 use Rattle.sip_vector.specs.Streams.{int_sum, total, vector}
 

@@ -1,5 +1,6 @@
 -- The multilinear extension of a vector (Cormode, Thaler, Yi, PVLDB 5(1), section 2).
-use Rattle.std.specs.Prelude.{ℕ, ◌+◌, ◌*◌, ◌/◌, ◌%◌, ◌^◌, ◌==◌, ℤ, pos, List, [], ◌∷◌, map, sum_by, if◌then◌else◌}
+use Rattle.std.specs.Prelude.{ℕ, ◌+◌, ◌*◌, ◌/◌, ◌%◌, ◌^◌, ◌==◌, ℤ, pos, List, [], ◌∷◌, map, sum_by}
+use Rattle.std.specs.Prelude.{if◌then◌else◌}
 use Rattle.std.specs.List.{range_with_len, enumerate_from}
 use Rattle.sip_field.specs.Residue.{residue, difference_mod}
 use Rattle.sip_vector.specs.Answers.{is_within}

@@ -1,5 +1,6 @@
 -- What a level shows, the residues of the nodes of one height, and how its spots are folded.
-use Rattle.std.specs.Prelude.{ℕ, ◌+◌, ◌*◌, ◌/◌, ◌%◌, ◌==◌, ℤ, Bool, false, not, ◌&&◌, nat_le, List, [], ◌∷◌, filter, if◌then◌else◌}
+use Rattle.std.specs.Prelude.{ℕ, ◌+◌, ◌*◌, ◌/◌, ◌%◌, ◌==◌, ℤ, Bool, false, not, ◌&&◌, nat_le, List}
+use Rattle.std.specs.Prelude.{[], ◌∷◌, filter, if◌then◌else◌}
 use Rattle.std.specs.List.{enumerate_from}
 use Rattle.sip_field.specs.Residue.{residue, difference_mod}
 use Rattle.sip_vector.specs.Extensions.{line}

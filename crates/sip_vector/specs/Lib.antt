@@ -14,6 +14,7 @@ pub mod Examples
 pub mod Pieces
 pub mod Steps
 pub mod Weights
+pub mod Running
 pub mod Lines
 pub mod Splits
 pub mod inside

@@ -1,5 +1,6 @@
 -- Streams of updates, and the vectors that they add up to.
-use Rattle.std.specs.Prelude.{◌≢◌, ℕ, ◌-◌, ◌^◌, ◌<◌, ◌≤◌, Bool, true, false, ◌==◌, ℤ, pos, ◌≤ℤ◌, ◌+ℤ◌, nat_abs, List, [], ◌∷◌, map, All, sum_by, filter}
+use Rattle.std.specs.Prelude.{◌≢◌, ℕ, ◌-◌, ◌^◌, ◌<◌, ◌≤◌, Bool, true, false, ◌==◌, ℤ, pos, ◌≤ℤ◌}
+use Rattle.std.specs.Prelude.{◌+ℤ◌, nat_abs, List, [], ◌∷◌, map, All, sum_by, filter}
 use Rattle.std.specs.List.{range_with_len}
 use Rattle.sip_vector.specs.declared.update.Side.{Side}
 use Rattle.sip_vector.specs.declared.update.Side.TheVariants.{First, Second}

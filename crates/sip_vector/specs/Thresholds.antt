@@ -1,5 +1,6 @@
 -- The least entry that a query for heavy hitters asks for, and how many its answer may have.
-use Rattle.std.specs.Prelude.{ℕ, ◌+◌, ◌-◌, ◌*◌, ◌/◌, Bool, ◌&&◌, nat_lt, ℤ, pos, nat_abs, int_le, if◌then◌else◌}
+use Rattle.std.specs.Prelude.{ℕ, ◌+◌, ◌-◌, ◌*◌, ◌/◌, Bool, ◌&&◌, nat_lt, ℤ, pos, nat_abs, int_le}
+use Rattle.std.specs.Prelude.{if◌then◌else◌}
 
 -- num/den of a total above 0, rounded up; 1 of another total
 abbrev pub share_of : ℕ → ℕ → ℤ → ℕ

@@ -1,6 +1,7 @@
 -- Hash trees over a vector: the lowest bit of an index chooses first (Cormode, Thaler, Yi, PVLDB
 -- 5(1), sections 4 and 5).
-use Rattle.std.specs.Prelude.{ℕ, ◌+◌, ◌*◌, ◌%◌, ◌^◌, ℤ, pos, ◌+ℤ◌, List, [], ◌∷◌, map, fold, slice_index, slice_index_or}
+use Rattle.std.specs.Prelude.{ℕ, ◌+◌, ◌*◌, ◌%◌, ◌^◌, ℤ, pos, ◌+ℤ◌, List, [], ◌∷◌, map, fold}
+use Rattle.std.specs.Prelude.{slice_index, slice_index_or}
 use Rattle.sip_field.specs.Residue.{residue}
 
 -- the level above: each pair (u, w) of neighbours becomes u + r * w

@@ -1,5 +1,7 @@
 -- What a vector shows, and how it stands for one side of a stream.
-use Rattle.std.specs.Prelude.{ℕ, ◌+◌, ◌^◌, ℤ, pos, ◌+ℤ◌, nat_abs, Bool, not, ◌&&◌, List, Option, Some, None, replicate, filter, fold, slice_set, slice_index_or, if◌then◌else◌}
+use Rattle.std.specs.Prelude.{ℕ, ◌+◌, ◌^◌, ℤ, pos, ◌+ℤ◌, nat_abs, Bool, not, ◌&&◌, List, Option}
+use Rattle.std.specs.Prelude.{Some, None, replicate, filter, fold, slice_set, slice_index_or}
+use Rattle.std.specs.Prelude.{if◌then◌else◌}
 use Rattle.sip_vector.specs.declared.update.Side.{Side}
 use Rattle.sip_vector.specs.declared.update.Update.{Update}
 use Rattle.sip_vector.specs.declared.update.Entry.{Entry}

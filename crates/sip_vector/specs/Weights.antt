@@ -1,6 +1,7 @@
 -- What a root is raised by where a number below it is raised by 1 (Cormode, Thaler, Yi, PVLDB 5(1),
 -- section 4).
-use Rattle.std.specs.Prelude.{ℕ, ◌+◌, ◌*◌, ◌/◌, ◌%◌, ◌^◌, ◌==◌, ℤ, pos, ◌+ℤ◌, List, [], ◌∷◌, drop, fold, slice_index_or, slice_set, sum_by, if◌then◌else◌}
+use Rattle.std.specs.Prelude.{ℕ, ◌+◌, ◌*◌, ◌/◌, ◌%◌, ◌^◌, ◌==◌, ℤ, pos, ◌+ℤ◌, List, [], ◌∷◌, drop}
+use Rattle.std.specs.Prelude.{fold, slice_index_or, slice_set, sum_by, if◌then◌else◌}
 use Rattle.std.specs.List.{enumerate_from}
 use Rattle.sip_vector.specs.declared.update.Update.{Update}
 

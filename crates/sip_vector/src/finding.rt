@@ -1,9 +1,11 @@
 //! What lists of entries add up to at an index.
 
-ghost use Rattle.std.specs.Prelude.{◌≡◌, ℕ, ◌^◌, ◌<◌, ◌≤◌, ◌↔◌, pos, ◌≤ℤ◌, map, filter, length, All, IsTrue};
+ghost use Rattle.std.specs.Prelude.{◌≡◌, ℕ, ◌^◌, ◌<◌, ◌≤◌, ◌↔◌, pos, ◌≤ℤ◌, map, filter, length};
+ghost use Rattle.std.specs.Prelude.{All, IsTrue};
 ghost use Rattle.sip_vector.specs.Answers.{is_within};
 ghost use Rattle.sip_vector.specs.Sparse.{IsSparse};
-ghost use Rattle.sip_vector.specs.inside.Gathered.{as_pair, abs_sum, sum_at, IsBare, IsFirstFrom, IsFirstOf, IsListOf};
+ghost use Rattle.sip_vector.specs.inside.Gathered.{as_pair, abs_sum, sum_at, IsBare, IsFirstFrom};
+ghost use Rattle.sip_vector.specs.inside.Gathered.{IsFirstOf, IsListOf};
 ghost use Rattle.sip_vector.specs.Vectors.{SideVector, last_of};
 ghost use Rattle.sip_vector.specs.Streams.{most_weight};
 

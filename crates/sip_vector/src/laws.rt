@@ -4,12 +4,16 @@
 //! In the examples the vector is (3, 0, 5, 1) over four items, and the challenges are (2, 10)
 //! modulo 2^61 - 1.
 
-ghost use Rattle.std.specs.Prelude.{◌≡◌, ℕ, ◌+◌, ◌-◌, ◌*◌, ◌%◌, ◌^◌, ◌<◌, List, [], ◌∷◌, ◌++◌, pos, negsuc, ℤ, ◌≤ℤ◌, ◌+ℤ◌, nat_abs, Some, None, slice_get, map, fold, length, replicate, true, false, All};
+ghost use Rattle.std.specs.Prelude.{◌≡◌, ℕ, ◌+◌, ◌-◌, ◌*◌, ◌%◌, ◌^◌, ◌<◌, List, [], ◌∷◌, ◌++◌, pos};
+ghost use Rattle.std.specs.Prelude.{negsuc, ℤ, ◌≤ℤ◌, ◌+ℤ◌, nat_abs, Some, None, slice_get, map};
+ghost use Rattle.std.specs.Prelude.{fold, length, replicate, true, false, All};
 ghost use Rattle.sip_field.specs.Moduli.{m61_modulus as p};
 ghost use Rattle.sip_field.specs.Residue.{residue};
-ghost use Rattle.sip_vector.specs.Streams.{same_side, vector, total, weight, int_sum, of_side, IsLegal};
+ghost use Rattle.sip_vector.specs.Streams.{same_side, vector, total, weight, int_sum, of_side};
+ghost use Rattle.sip_vector.specs.Streams.{IsLegal};
 ghost use Rattle.sip_vector.specs.Lines.{added_numbers};
-ghost use Rattle.sip_vector.specs.Splits.{weights, splittree, splittop, splitroot, value_factor, weight_factor};
+ghost use Rattle.sip_vector.specs.Splits.{weights, splittree, splittop, splitroot, value_factor};
+ghost use Rattle.sip_vector.specs.Splits.{weight_factor};
 ghost use Rattle.sip_vector.specs.Fingerprints.{fingerprint, mix};
 ghost use Rattle.sip_vector.specs.Tallies.{IsSound, joined, tally};
 ghost use Rattle.sip_vector.specs.Vectors.{side_vector, zero_vector, with_update, nonzero_within};
@@ -84,8 +88,8 @@ pub fn weights_add_up()
 
 /// The top of the split tree over entrywise sums has the sum of both hashes modulo p and the sum of
 /// both counts. Over zeros it is 0 and 0. A value and a weight that are raised raise the hash by
-/// what was added times their factors, which add up to the weight that a number has in the augmented
-/// tree, and the count by what was added to the weight.
+/// what was added times their factors, which add up to the weight that a number has in the
+/// augmented tree, and the count by what was added to the weight.
 pub fn split_tops_add_up()
     ensures sum { (p : ℕ) (values others weights more : List ℤ) (challenges : List ℕ)
         → 0 < p → length values ≡ length weights → length others ≡ length more
@@ -197,8 +201,8 @@ pub fn pieces_of_four()
 {}
 
 /// The split tree over the values (0, 5, -9, 3) with the weights (0, 5, 9, 5) has the nodes (60, 5)
-/// and (61, 14), and the top (20210, 19). Over (3, 0, 5, 1), where nothing is taken away, its top is
-/// that of the augmented tree.
+/// and (61, 14), and the top (20210, 19). Over (3, 0, 5, 1), where nothing is taken away, its top
+/// is that of the augmented tree.
 pub fn split_tree_of_four()
     ensures values { vector 2 credits sides.First
         ≡ pos 0 ∷ pos 5 ∷ negsuc 8 ∷ pos 3 ∷ [] }

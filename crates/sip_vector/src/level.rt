@@ -1,6 +1,7 @@
 //! The nodes of one height over a vector, kept by those that are not 0.
 
-ghost use Rattle.std.specs.Prelude.{ℕ, ◌≡◌, ◌*◌, ◌^◌, ◌<◌, ◌≤◌, ◌↔◌, pos, length, map, drop, slice_get, slice_index, IfOk, IsTrue};
+ghost use Rattle.std.specs.Prelude.{ℕ, ◌≡◌, ◌*◌, ◌^◌, ◌<◌, ◌≤◌, ◌↔◌, pos, length, map, drop};
+ghost use Rattle.std.specs.Prelude.{slice_get, slice_index, IfOk, IsTrue};
 ghost use Rattle.std.specs.Option.{option_map};
 ghost use Rattle.sip_field.specs.Residue.{residue};
 ghost use Rattle.sip_vector.specs.Trees.{up};
@@ -10,7 +11,9 @@ ghost use Rattle.sip_vector.specs.Sparse.{IsSparse, dense};
 ghost use Rattle.sip_vector.specs.Streams.{most_weight};
 ghost use Rattle.sip_vector.specs.Vectors.{numbers_of};
 ghost use Rattle.sip_vector.specs.inside.Gathered.{as_pair, abs_sum};
-ghost use Rattle.sip_vector.specs.Levels.{index_and_residue, nonzero_from, level_above, residue_above, above_one, before, begins_with_pair, folded};
+ghost use Rattle.sip_vector.specs.Levels.{index_and_residue, nonzero_from, level_above};
+ghost use Rattle.sip_vector.specs.Levels.{residue_above, above_one, before, begins_with_pair};
+ghost use Rattle.sip_vector.specs.Levels.{folded};
 
 use crate::{Depth, Entry, Vector};
 use sip_field::{Field, OutOfMemory};

@@ -7,6 +7,7 @@
 //! - [`Vector`] is one side's vector, for whoever keeps it: the helper.
 //! - [`Level`] is the list of the nodes of one height over a vector, folded in place by the rule of
 //!   the hash tree or by that of the multilinear extension.
+//! - [`added_by_tables`] adds many updates to a running number of a vector that is not kept.
 //!
 //! # What the contracts say
 //!
@@ -14,14 +15,16 @@
 //!
 //! | Module | Definitions |
 //! |---|---|
-//! | `Streams`, `Vectors` | the vector of a side of a stream; what a [`Vector`] shows, and its entries that are not 0 |
+//! | `Streams`, `Vectors` | the vector of a side of a stream; what a [`Vector`] shows |
 //! | `Fingerprints`, `Tallies` | the fingerprint of a stream; what is told of it by a few numbers |
 //! | `Answers` | what each query asks for |
 //! | `Built` | which kinds of query are built |
-//! | `Thresholds` | from which entry on a query for heavy hitters asks, and whether its answer may be too wide |
+//! | `Thresholds` | from which entry on a query asks for heavy hitters, and how wide it may be |
 //! | `Limits` | how large things are at the most |
-//! | `Trees`, `Extensions`, `Levels` | the two hash trees over a vector; its multilinear extension; the level above |
-//! | `Splits` | the weights of a side's items, which only grow; the tree that hashes a vector and counts by weights |
+//! | `Trees`, `Extensions` | the two hash trees over a vector; its multilinear extension |
+//! | `Levels` | the level above a list of nodes |
+//! | `Splits` | the weights of a side's items; the tree that hashes a vector and counts by them |
+//! | `Weights`, `Running` | what an entry counts in a root; a running number after many updates |
 //! | `Lines` | what is linear in a vector, and so adds up over streams |
 //! | `Sparse` | lists that are kept by the entries at which they are not 0 |
 //!
@@ -44,19 +47,21 @@
 //! | `Vector::get` | O(log m + p) | none |
 //! | `Vector::entries_with_pending` | O(m + p log p) | as many entries as m + p |
 //! | `Vector::new`, `Vector::shared_entries` | O(1) | one small block; none |
-//! | `Vector::next_entry`, `Vector::count_in` | O(log m); with p above 0 O(log m + p) for each index tried | none |
-//! | `Vector::is_strict` | O(m); with p above 0 O(log m + p) for each index tried | none |
-//! | `Level::of` | O(m), and O(p log p) | one spot for each entry; with p above 0 the list of entries too |
+//! | `Vector::next_entry`, `Vector::count_in` | O(log m), or O(log m + p) for an index | none |
+//! | `Vector::is_strict` | O(m); O(log m + p) for each index tried | none |
+//! | `Level::of` | O(m), and O(p log p) | a spot for each entry; above p = 0 the list too |
 //! | `Level::fold_tree`, `Level::fold_line` | O(m), one `times` for each node above | none |
 //! | `Level::at`, `Level::next_nonzero` | O(log m) | none |
+//! | `added_by_tables` | one `times` for an update and a table | none |
 //!
-//! A `settle` that was refused memory leaves what is pending sorted. Then, until the next `add`, the
-//! p of `get` and of an index that is tried is O(log p) and as many steps as were added there: a walk
-//! over all entries is no longer quadratic.
+//! A `settle` that was refused memory leaves what is pending sorted. Then, until the next `add`,
+//! the p of `get` and of an index that is tried is O(log p) and as many steps as were added there:
+//! a walk over all entries is no longer quadratic.
 //!
 //! The other calls take O(1) and no memory.
 #![tactic(auto)]
 
+mod adding;
 mod depth;
 mod finding;
 mod fingerprint;
@@ -72,6 +77,7 @@ mod update;
 mod vector;
 mod waiting;
 
+pub use adding::added_by_tables;
 pub use depth::{CAP, Depth};
 pub use fingerprint::Fingerprint;
 pub use level::{Level, Spot};

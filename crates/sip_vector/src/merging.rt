@@ -1,9 +1,11 @@
 //! Two lists of entries become one.
 
-ghost use Rattle.std.specs.Prelude.{◌≡◌, ℕ, ◌+◌, ◌<◌, ◌≤◌, pos, [], map, All, MatchOption, IfOk, OnOk};
+ghost use Rattle.std.specs.Prelude.{◌≡◌, ℕ, ◌+◌, ◌<◌, ◌≤◌, pos, [], map, All, MatchOption, IfOk};
+ghost use Rattle.std.specs.Prelude.{OnOk};
 ghost use Rattle.std.specs.List.Sorted.{IsPermutation};
 ghost use Rattle.sip_vector.specs.Sparse.{IsSparse};
-ghost use Rattle.sip_vector.specs.inside.Gathered.{as_pair, abs_sum, with_last, IsRising, IsTaken, IsMerged};
+ghost use Rattle.sip_vector.specs.inside.Gathered.{as_pair, abs_sum, with_last, IsRising, IsTaken};
+ghost use Rattle.sip_vector.specs.inside.Gathered.{IsMerged};
 ghost use Rattle.sip_vector.specs.Streams.{most_weight};
 
 use crate::Entry;
@@ -26,7 +28,8 @@ fn take_lower<'a>(
         ([], [first, rest @ ..]) => Some((first.entry(), list, rest)),
         ([first, ..], [other, ..]) => {
             let other = other.entry();
-            // Which list is next is as good as random: a branch would be guessed wrongly for every other entry.
+            // Which list is next is as good as random: a branch would be guessed wrongly for every
+            // other entry.
             let is_listed = first.index <= other.index;
             let entry = if is_listed { *first } else { other };
             let count = usize::from(is_listed);

@@ -1,6 +1,7 @@
 //! Additions to a vector that are not merged yet.
 
-ghost use Rattle.std.specs.Prelude.{◌≡◌, ◌==◌, ◌^◌, ◌<◌, ◌≤◌, [], filter, nat_abs, length, IfOk, OnOk, OnErr};
+ghost use Rattle.std.specs.Prelude.{◌≡◌, ◌==◌, ◌^◌, ◌<◌, ◌≤◌, [], filter, nat_abs, length, IfOk};
+ghost use Rattle.std.specs.Prelude.{OnOk, OnErr};
 ghost use Rattle.std.specs.List.Sorted.{IsPermutation};
 ghost use Rattle.sip_vector.specs.Answers.{is_within};
 ghost use Rattle.sip_vector.specs.Limits.{most_depth};
@@ -105,8 +106,8 @@ impl Pending {
         self.additions.clear();
     }
 
-    /// What they add at an index. O(p); where they are sorted O(log p) and as many steps as they add
-    /// there.
+    /// What they add at an index. O(p); where they are sorted O(log p) and as many steps as they
+    /// add there.
     pub(crate) fn sum_at(&self, index: u64) -> i64
         requires { abs_sum self.now.items ≤ most_weight }
         ensures { result ≡ sum_at self.now.items index }

@@ -1,8 +1,11 @@
 //! One side's vector, kept by its entries that are not 0.
 
-ghost use Rattle.std.specs.Prelude.{ℕ, ◌≡◌, ◌+◌, ◌^◌, ◌<◌, ◌≤◌, ◌↔◌, pos, ◌≤ℤ◌, nat_abs, length, sum_by, All, slice_get, IfOk, IfSome, IsSome, OnOk, OnErr, IsTrue, true, false};
+ghost use Rattle.std.specs.Prelude.{ℕ, ◌≡◌, ◌+◌, ◌^◌, ◌<◌, ◌≤◌, ◌↔◌, pos, ◌≤ℤ◌, nat_abs, length};
+ghost use Rattle.std.specs.Prelude.{sum_by, All, slice_get, IfOk, IfSome, IsSome, OnOk, OnErr};
+ghost use Rattle.std.specs.Prelude.{IsTrue, true, false};
 ghost use Rattle.sip_vector.specs.Streams.{int_sum, most_weight};
-ghost use Rattle.sip_vector.specs.Vectors.{contents, number_at, zero_vector, with_added, nonzero, nonzero_within, last_of};
+ghost use Rattle.sip_vector.specs.Vectors.{contents, number_at, zero_vector, with_added, nonzero};
+ghost use Rattle.sip_vector.specs.Vectors.{nonzero_within, last_of};
 ghost use Rattle.sip_vector.specs.inside.Gathered.{IsListOf, IsFirstOf};
 
 use crate::finding::{
@@ -59,7 +62,8 @@ impl Model for Vector {
       is_settled = length v.pending.items == 0;
     } };
 
-    ghost invariant = { λ v. IsGathered v.depth v.list.value.items v.pending.items v.total v.weight };
+    ghost invariant = { λ v.
+        IsGathered v.depth v.list.value.items v.pending.items v.total v.weight };
 }
 
 impl Vector {
@@ -125,7 +129,8 @@ impl Vector {
         Ok(())
     }
 
-    // Makes a new list with what is pending, which is sorted where memory is wanted, and keeps the room that it had. It is seldom called, and `add` is short without it.
+    // Makes a new list with what is pending, which is sorted where memory is wanted, and keeps the
+    // room that it had. It is seldom called, and `add` is short without it.
     #[inline(never)]
     fn merge(&mut self) -> Result<(), OutOfMemory>
         ensures ok { OnOk result (self.new ≡ record self.old { is_settled = true }) }

@@ -1,5 +1,5 @@
 -- A report of `verify` that keeps to the clause of verdicts is counted.
-use Rattle.std.proofs.Common.{◌≡◌, List, [], ◌∷◌, All}
+use Rattle.std.proofs.Common.{sym, ◌≡◌, List, [], ◌∷◌, All}
 use Rattle.std.proofs.lemmas.List.Elements.{All-cons, All-nil, All-head, All-tail}
 use Rattle.sip_stream.proofs.LegalRecords.{records_legal}
 use Rattle.sip_vector.specs.declared.query.Query.{Query}
@@ -43,8 +43,8 @@ module _ (i : Inquiry) (x : Exchange) (can : All (CanBeAsked i.depth) i.queries)
   abbrev pub counts_of : Reported → CountClause i x
   counts_of w = general.counts_of asking counting i x (few_of i.queries can) (Fits i.depth) fits each_counts w
 
-  pub counts_lines : (w : Reported) → (counts_of w).lines ≡ written_of w.done
-  counts_lines w = general.counts_lines asking counting i x (few_of i.queries can) (Fits i.depth) fits each_counts w
+  pub lines_counted : (w : Reported) → written_of w.done ≡ (counts_of w).lines
+  lines_counted w = sym (general.counts_lines asking counting i x (few_of i.queries can) (Fits i.depth) fits each_counts w)
 
   pub reported : (status : Status) → VerdictClause i x status → IsListed status → Reported
   reported status v is = general.reported asking counting i x (few_of i.queries can) (Fits i.depth) fits each_counts status v is

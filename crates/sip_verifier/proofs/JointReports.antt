@@ -16,7 +16,7 @@ use Rattle.sip_vector.specs.Streams.{int_sum, vector, IsLegal, IsStrict}
 use Rattle.sip_vector.specs.Thresholds.{share_of}
 use Rattle.sip_vector.specs.Trees.{augroot}
 use Rattle.sip_counts.specs.Late.{some_fooled}
-use Rattle.sip_counts.specs.Joint.{Asked, after, is_misled, misled, bounds, IsBounded}
+use Rattle.sip_counts.specs.Joint.{CountedQuestion, after, is_misled, misled, bounds, IsBounded}
 use Rattle.sip_counts.specs.Strategies.{Strategy, IsOfBytes, replies, takes_wrong, fooled}
 use Rattle.sip_counts.proofs.Joint.{few_misled_of}
 use Rattle.sip_counts.proofs.Talks.{replies-length}
@@ -44,7 +44,7 @@ use Rattle.sip_verifier.specs.declared.status.Status.{Status}
 use Rattle.sip_verifier.specs.declared.task.Task.{Task}
 use Rattle.sip_verifier.proofs.Blocks.{challenges-below, length-challenges}
 use Rattle.sip_verifier.proofs.CountedQuestions.{few_wrong, never_sum, question_counts}
-use Rattle.sip_verifier.proofs.CountedReports.{Reported, counts_lines, counts_of, reported, written_of}
+use Rattle.sip_verifier.proofs.CountedReports.{Reported, counts_of, lines_counted, reported, written_of}
 use Rattle.sip_verifier.proofs.ShareAnswers.{share_answer, share_reached}
 use Rattle.sip_stream.proofs.LegalRecords.{records_legal}
 
@@ -73,7 +73,7 @@ module _ (version : Version) (depth : ℕ) (stream : List Update) (legal : IsLeg
   Can query = OfKind version depth stream query (λ kind. kind.CanBeCounted)
 
   -- the query as one of several
-  abbrev Row : Query → Asked
+  abbrev Row : Query → CountedQuestion
   Row query = asked_by accepts_in depth (kind_row version depth stream query)
 
   -- no entry is heavy where the total is below the threshold
@@ -265,7 +265,7 @@ module _ (i : Inquiry) (x : Exchange) (can : All (CanBeAsked i.depth) i.queries)
   counted_jointly status v is =
       let r : Reported i x can = reported i x can status v is in (
         counts_of i x can r,
-        subst (JointClause i x) (sym (counts_lines i x can r)) (record {
+        subst (JointClause i x) (lines_counted i x can r) (record {
           few = few;
           vector = vector_is;
           counted = λ challenges drawn strategy talk. misled_lines r.done challenges drawn strategy r.reached talk;

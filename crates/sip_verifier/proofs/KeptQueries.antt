@@ -10,20 +10,22 @@ use Rattle.sip_wire.specs.declared.version.Version.{Version}
 use Rattle.sip_replies.specs.Asking.{AreFrames}
 use Rattle.sip_replies.proofs.Framed.{AreFrames-append, AreFrames-none}
 use Rattle.sip_replies.proofs.Reading.{no_frame}
-use Rattle.sip_verifier.specs.declared.session.SessionFault.{SessionFault}
+use Rattle.sip_verifier.specs.declared.asker.Unanswered.{Unanswered}
+use Rattle.sip_verifier.specs.declared.asker.Unanswered.TheVariants as unanswered
 use Rattle.sip_verifier.specs.declared.session.SessionFault.TheVariants as faults
 use Rattle.sip_verifier.specs.declared.status.Port.TheVariants as ports
 use Rattle.sip_verifier.specs.declared.status.Status.{Status}
 use Rattle.sip_verifier.specs.declared.status.Status.TheVariants as statuses
-use Rattle.sip_verifier.specs.inside.Ending.{status_of_fault, status_of_link, status_of_report}
-use Rattle.sip_verifier.specs.Keeping.{AllIsKept, FramesAreKept, FrontIsKept, KeepsReplies, KeepsTalk, WholeIsKept}
+use Rattle.sip_verifier.specs.inside.Ending.{status_of_link, status_of_report}
+use Rattle.sip_verifier.specs.Keeping.{AllIsKept, FramesAreKept, FrontIsKept, KeepsTalk, WholeIsKept}
+use Rattle.sip_verifier.specs.runs.Askers.{KeepsAsked}
 use Rattle.sip_verifier.proofs.QueriesChecked.{OnLink, OnReport}
 
 -- ---- one query
 
 module _ (old new before now : Option (List TalkEvent)) where
   -- all of it is a front of it
-  front_of_all : AllIsKept old new before now → FrontIsKept old new before now
+  pub front_of_all : AllIsKept old new before now → FrontIsKept old new before now
   front_of_all a = record { said = a.said; talk = a.talk; wrote = (heard a.said, ([], sym (append-nil (heard a.said))), a.wrote) }
 
   module _ (version : Version) where
@@ -32,7 +34,7 @@ module _ (old new before now : Option (List TalkEvent)) where
     all_of_whole w = record { said = w.said; talk = w.talk; wrote = w.wrote }
 
     -- and behind them nothing came
-    frames_of_whole : WholeIsKept old new before now version → FramesAreKept old new before now version
+    pub frames_of_whole : WholeIsKept old new before now version → FramesAreKept old new before now version
     frames_of_whole w = record {
       said = w.said;
       talk = w.talk;
@@ -59,12 +61,6 @@ module _ (old new before now : Option (List TalkEvent)) where
     pub line_kept : (written : Result (Unit {0}) PortStop) (r : Result (Unit {0}) Status) → WholeIsKept old new before now version → OnReport written r → KeepsTalk old new before now version r
     line_kept written (Ok u) w on = w
     line_kept written (Err status) w on = rejection_kept written status (all_of_whole w) on
-
-    -- it has no verdict
-    pub fault_kept : (fault : SessionFault) → KeepsReplies old new before now version (Err fault) → KeepsTalk old new before now version (Err (status_of_fault fault))
-    fault_kept faults.PeerFault f = f
-    fault_kept faults.KeepFault f = f
-    fault_kept faults.OutOfMemory f = f
 
 -- ---- all queries
 
@@ -125,6 +121,14 @@ module _ (version : Version) (old mid new before during now : Option (List TalkE
         talk = talk_then f.said f.talk;
         wrote = (heard a.said ++ part, (more, split_then f.said part more is), wrote_then part wrote);
       }
+
+  -- and then the replies to one query
+  pub asked_then : {G : Type 0} (r : Result G Unanswered) → KeepsAsked mid new during now version r → KeepsAsked old new before now version r
+  asked_then (Ok given) k = whole_then k
+  asked_then (Err (unanswered.Rejected round reason)) k = all_then k
+  asked_then (Err (unanswered.Fault faults.PeerFault)) k = frames_then k
+  asked_then (Err (unanswered.Fault faults.KeepFault)) k = front_then k
+  asked_then (Err (unanswered.Fault faults.OutOfMemory)) k = front_then k
 
   -- and then one query more
   pub kept_then : (r : Result (Unit {0}) Status) → KeepsTalk mid new during now version r → KeepsTalk old new before now version r

@@ -19,7 +19,9 @@ use Rattle.sip_replies.specs.Replies.{MayEnd, joined}
 use Rattle.sip_replies.specs.Talks.{asked, asked_unless, ending}
 use Rattle.sip_replies.proofs.Hearing.{heard-asked}
 use Rattle.sip_verifier.specs.inside.Judging.{verdict_of}
-use Rattle.sip_verifier.specs.Keeping.{AllIsKept, FramesAreKept, FrontIsKept, KeepsReplies, WholeIsKept}
+use Rattle.sip_verifier.specs.AskClause.{came_of}
+use Rattle.sip_verifier.specs.Keeping.{AllIsKept, FramesAreKept, FrontIsKept, WholeIsKept}
+use Rattle.sip_verifier.specs.runs.Askers.{KeepsAsked}
 use Rattle.sip_verifier.proofs.HeardTalks.{heard_accepted}
 
 -- no byte is heard where the link ends
@@ -74,7 +76,7 @@ module _ {S : Type 0} (P : Protocol S) (request : Message) (block : List ℕ) (o
         wrote = subst (KeepsPart before now) (sym (heard_to_end u.replies u.ended few (heard-ended u.ended u.unjudged.may_end))) u.kept;
       }
 
-  pub replies_kept : (places : List Entry) (result : Result Said AskStop) → Answers P request block old new before now places result → KeepsReplies old new before now P.rules.version (verdict_of result)
+  pub replies_kept : (places : List Entry) (result : Result Said AskStop) → Answers P request block old new before now places result → KeepsAsked old new before now P.rules.version (came_of (verdict_of result))
   replies_kept places (Ok (saids.Number n)) a = answered_kept (number n) a
   replies_kept places (Ok (saids.Pairs found)) a = answered_kept (answer_of places (saids.Pairs found)) a
   replies_kept places (Err (stops.Rejected round reason)) a = rejected_kept round reason a

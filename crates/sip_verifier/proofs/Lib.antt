@@ -38,6 +38,9 @@ pub mod HeardTalks
 pub mod KeptHead
 pub mod KeptReplies
 pub mod KeptQueries
+pub mod ListedStops
+pub mod KeptAsks
+pub mod KeptChecks
 pub mod KeptRuns
 pub mod HonestReplies
 pub mod HonestQuestions

@@ -21,7 +21,7 @@ use Rattle.sip_wire.specs.Table.{allows, leaf_fields, most_rows, node_fields, si
 use Rattle.sip_replies.specs.declared.check.More.TheVariants as mores
 use Rattle.sip_replies.specs.Replies.{joined, reason_of}
 use Rattle.sip_replies.proofs.Passing.{step_passed, test_passed}
-use Rattle.sip_heavy.specs.AcceptsHeavy.{Asked, end_test, is_next, leaf_node, merged, most_nodes, with_nodes}
+use Rattle.sip_heavy.specs.AcceptsHeavy.{HeavyQuestion, end_test, is_next, leaf_node, merged, most_nodes, with_nodes}
 use Rattle.sip_heavy.specs.LawProofs.ReplyTests.{heavy_tests}
 use Rattle.sip_heavy.specs.Protocol.{HeavyState, ended, heavy_rules, heavy_step, leaf_nodes, nodes_step}
 use Rattle.sip_verifier.specs.ReplyBound.{rows_frame}
@@ -31,15 +31,15 @@ use Rattle.sip_verifier.proofs.ReplySizes.{Sizes, replies_size, same_due}
 use Rattle.sip_verifier.proofs.TakenReplies.{AreTaken}
 
 -- the nodes that were received of a level are no more than it may have
-abbrev pub HasFew : Asked → HeavyState → Type 0
+abbrev pub HasFew : HeavyQuestion → HeavyState → Type 0
 HasFew q s = length s.received ≤ most_nodes q
 
 -- so many bytes are left for them
-abbrev pub nodes_left : Version → Asked → HeavyState → ℕ
+abbrev pub nodes_left : Version → HeavyQuestion → HeavyState → ℕ
 nodes_left version q s = rows_frame (node_fields version) 1 * (most_nodes q - length s.received)
 
 -- nodes that passed are those before and these, and no more than a level may have
-nodes-taken : (q : Asked) (level : ℕ) (known before xs all : List Node) → length before ≤ most_nodes q → with_nodes q level known before xs ≡ Ok all
+nodes-taken : (q : HeavyQuestion) (level : ℕ) (known before xs all : List Node) → length before ≤ most_nodes q → with_nodes q level known before xs ≡ Ok all
     → (length all ≡ length before + length xs) × (length all ≤ most_nodes q)
 nodes-taken q level known before [] all few is = let same : before ≡ all = cc in subst (λ (l : List Node). (length l ≡ length before + 0) × (length l ≤ most_nodes q)) same (omega arith, few)
 nodes-taken q level known before (x ∷ xs) all few is =
@@ -122,7 +122,7 @@ heard_at : (first : Bool) (kind : Kind) → allows (place_at first) kind ≡ tru
 heard_at true kind a = heard_leaves kind a
 heard_at false kind a = heard_nodes kind a
 
-module _ (version : Version) (p : ℕ) (q : Asked) where
+module _ (version : Version) (p : ℕ) (q : HeavyQuestion) where
   -- nodes go on
   went : (s t : HeavyState) (xs : List Node) (bytes rest : List ℕ) → HasFew q s → nodes_step q s xs ≡ Ok (mores.Due, t)
       → ((all : List Node) → length all ≡ length s.received + length xs → length all ≤ most_nodes q

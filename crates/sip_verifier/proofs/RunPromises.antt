@@ -1,6 +1,6 @@
 -- All that a run keeps, from its first three promises and what is kept of its talk.
-use Rattle.std.proofs.Common.{◌≡◌, ◌≤◌, ℕ, Result, Ok, Err, true, refl}
-use Rattle.std.specs.Prelude.{All, IfErr, IsTrue, ◌||◌}
+use Rattle.std.proofs.Common.{◌≡◌, ◌≤◌, true, refl}
+use Rattle.std.specs.Prelude.{All, ◌||◌}
 use Rattle.std.proofs.lemmas.Bool.{or_left, or_right}
 use Rattle.sip_vector.specs.Answers.{Fits}
 use Rattle.sip_verifier.specs.declared.session.SessionStart.{SessionStart}
@@ -9,19 +9,19 @@ use Rattle.sip_verifier.specs.declared.status.Status.{Status}
 use Rattle.sip_verifier.specs.declared.task.Task.{Task}
 use Rattle.sip_verifier.specs.Exchanges.{Exchange, Tells}
 use Rattle.sip_verifier.specs.Inquiries.{inquiry_of}
-use Rattle.sip_verifier.specs.Snapshots.{Counts, Snapshot, IsTold, counts}
+use Rattle.sip_verifier.specs.Snapshots.{Counts, Snapshot, IsTold}
 use Rattle.sip_verifier.specs.inside.Ending.{status_of_start}
-use Rattle.sip_verifier.specs.Concluding.{Ended, status_of}
+use Rattle.sip_verifier.specs.Concluding.{Ended}
 use Rattle.sip_verifier.specs.KeepClause.{KeepClause, Keeps}
 use Rattle.sip_verifier.specs.Promises.{Promises}
 use Rattle.sip_verifier.specs.RunClause.{RunClause}
-use Rattle.sip_verifier.specs.Statuses.{FaultClause, IsListed, Stops, is_accepted, stops_gathering, stops_starting, stops_asking}
+use Rattle.sip_verifier.specs.Statuses.{FaultClause, IsListed, is_accepted, stops_gathering, stops_starting, stops_asking}
 use Rattle.sip_verifier.specs.Tasks.{CanBeDone}
 use Rattle.sip_verifier.proofs.CompleteRuns.{completes}
 use Rattle.sip_vector.specs.Limits.{most_depth}
 use Rattle.sip_verifier.proofs.JointReports.{task_counted}
 use Rattle.sip_verifier.proofs.KeptRuns.{KeptSo, kept_is}
-use Rattle.sip_verifier.proofs.QueriesChecked.{since_before}
+use Rattle.sip_verifier.proofs.ListedStops.{gathering_first}
 
 -- the queries of a task that can be done fit its depth
 all_fit : (task : Task) → CanBeDone task → All (Fits task.depth) task.queries.items
@@ -64,8 +64,7 @@ module _ (task : Task) (can : CanBeDone task) (some : 1 ≤ task.depth) (most : 
 
 pub gathering_listed : (status : Status) → stops_gathering status ≡ true → IsListed status
 gathering_listed status is =
-    or_left (is_accepted status || stops_gathering status || stops_starting status) (stops_asking status)
-    (or_left (is_accepted status || stops_gathering status) (stops_starting status) (or_right (is_accepted status) (stops_gathering status) is))
+    or_left (is_accepted status || stops_gathering status || stops_starting status) (stops_asking status) (gathering_first status (stops_starting status) is)
 
 pub starting_listed : (status : Status) → stops_starting status ≡ true → IsListed status
 starting_listed status is =
@@ -74,15 +73,6 @@ starting_listed status is =
 
 pub asking_listed : (status : Status) → stops_asking status ≡ true → IsListed status
 asking_listed status is = or_right (is_accepted status || stops_gathering status || stops_starting status) (stops_asking status) is
-
--- what came of the queries has its cause since an earlier moment of the link and of the record, and
--- is listed
-pub asked_stops : (first firsts second seconds earlier peer peers report reports sooner keep keeps : ℕ) (r : Result (Unit {0}) Status) → earlier ≤ peer → sooner ≤ keep
-    → Stops stops_asking (counts first second peer report keep) (counts firsts seconds peers reports keeps) r
-    → FaultClause (counts first second earlier report sooner) (counts firsts seconds peers reports keeps) (status_of r) × IsListed (status_of r) × IfErr r (λ status. IsTrue (stops_asking status))
-asked_stops first firsts second seconds earlier peer peers report reports sooner keep keeps (Ok u) later still stops = (tt, refl, tt)
-asked_stops first firsts second seconds earlier peer peers report reports sooner keep keeps (Err status) later still (is, fault) =
-    (since_before first firsts second seconds earlier peer peers report reports sooner keep keeps status later still fault, asking_listed status is, is)
 
 -- where there is no session the status is one of those, and needs no count
 pub start_listed : (start : SessionStart) → IsListed (status_of_start start)

@@ -22,7 +22,7 @@ use Rattle.sip_replies.specs.Replies.{Fault, joined}
 use Rattle.sip_replies.specs.Talks.{IsPrefix, asked_unless, ending}
 use Rattle.sip_replies.proofs.Hearing.{heard-asked}
 use Rattle.sip_replies.proofs.Unasked.{accepted_asked}
-use Rattle.sip_heavy.specs.AcceptsHeavy.{Asked}
+use Rattle.sip_heavy.specs.AcceptsHeavy.{HeavyQuestion}
 use Rattle.sip_heavy.specs.Counting.{asked_over}
 use Rattle.sip_heavy.specs.Protocol.{heavy_rules, reaches}
 use Rattle.sip_verifier.specs.declared.session.SessionFault.{SessionFault}
@@ -106,7 +106,7 @@ reaches_asked : (known : Answer) (test : Bool) → (if test then None else Some 
 reaches_asked known true e = refl
 reaches_asked known false e = absurd cc
 
-nodes_bound : (version : Version) (depth : ℕ) (q : Asked) (block : List ℕ) (replies : List (List ℕ)) → length block ≡ depth → reaches q ≡ true → AreTaken (heavy_rules version m61_modulus q) block replies
+nodes_bound : (version : Version) (depth : ℕ) (q : HeavyQuestion) (block : List ℕ) (replies : List (List ℕ)) → length block ≡ depth → reaches q ≡ true → AreTaken (heavy_rules version m61_modulus q) block replies
     → length (joined replies) ≤ most_node_bytes version depth q
 nodes_bound version depth q block replies size is taken = rw (is, ← size) (nodes_short version m61_modulus q block replies taken)
 

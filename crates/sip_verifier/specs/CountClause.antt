@@ -3,10 +3,11 @@
 -- However a helper replies to a query, by what was revealed to it, it has a wrong answer accepted
 -- at no more than c·d·p^(d - 1) of the p^d blocks of challenges, d being the depth, p the modulus,
 -- and c what the kind of the query has: 1 for a sub-vector, 2 for a range sum, a second moment and
--- an inner product, and 3 for heavy hitters, of a side without a negative entry. The report is a front of the lines of answers to the run's first queries in
--- order, and perhaps of the line of a rejection behind them. Where an answer in these lines is not
--- the one that the stream's own vectors give, the run's block for that query is among those few,
--- for every helper that replies to this block as the talk shows.
+-- an inner product, and 3 for heavy hitters, of a side without a negative entry. The report is a
+-- front of the lines of answers to the run's first queries in order, and perhaps of the line of a
+-- rejection behind them. Where an answer in these lines is not the one that the stream's own
+-- vectors give, the run's block for that query is among those few, for every helper that replies to
+-- this block as the talk shows.
 use Rattle.std.specs.Prelude.{ℕ, ◌*◌, ◌-◌, ◌^◌, ◌≤◌, Bool, List, flat_map, Some}
 use Rattle.sip_field.specs.Moduli.{m61_modulus}
 use Rattle.sip_vector.specs.declared.query.Query.{Query}

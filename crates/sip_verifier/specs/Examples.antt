@@ -1,4 +1,5 @@
--- The talk of `sub:1:2` over (3, 0, 5, 1) at the challenges (2, 10), and its transcript, byte by byte.
+-- The talk of `sub:1:2` over (3, 0, 5, 1) at the challenges (2, 10), and its transcript, byte by
+-- byte.
 use Rattle.std.specs.Prelude.{ℕ, List, [], ◌∷◌, ◌++◌}
 use Rattle.sip_ports.specs.declared.port.TalkEvent.{TalkEvent}
 use Rattle.sip_ports.specs.Ports.{outs, ins}

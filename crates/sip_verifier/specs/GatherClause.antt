@@ -1,5 +1,5 @@
--- All that a call keeps that draws the challenges, and reads and sends the stream, from the snapshot
--- before it to the snapshot after.
+-- All that a call keeps that draws the challenges, and reads and sends the stream, from the
+-- snapshot before it to the snapshot after.
 use Rattle.std.specs.Prelude.{◌≡◌, ◌⊎◌, ℕ, List, Some, Err, Result, IfErr, IfOk, IsSome, map}
 use Rattle.sip_ports.specs.Ports.{Rose}
 use Rattle.sip_verifier.specs.declared.status.Status.{Status}
@@ -30,7 +30,8 @@ pub record GatherClause (task : Task) (before now : Snapshot) (wants wanted : Co
   pub weights : (bytes : List ℕ) → before.first ≡ Some bytes
       → IfOk gathered (λ _. AreWeights (legal task bytes) weighed)
   pub unweighed : IfErr gathered (λ _. weighed ≡ none)
-  -- a fault of a port comes only where its own count rose, and want of memory where one of theirs did
+  -- a fault of a port comes only where its own count rose, and want of memory where one of theirs
+  -- did
   pub fault : Stops stops_gathering before.faults now.faults gathered
   pub memory : gathered ≡ Err OutOfMemory → Rose wants.first wanted.first
       ⊎ Rose wants.second wanted.second ⊎ Rose wants.peer wanted.peer ⊎ Rose wants.keep wanted.keep

@@ -9,12 +9,13 @@
 -- side may have no negative entry. Where a line of the report has another answer than the stream's
 -- own, the run's challenges are such a vector, for every joint helper that replies at the run's
 -- keys as the talk shows.
-use Rattle.std.specs.Prelude.{◌≡◌, ◌≢◌, ℕ, ◌*◌, ◌-◌, ◌^◌, ◌<◌, ◌≤◌, Bool, true, false, ⊤, List, [], ◌∷◌, ◌++◌, length, map, take, Some, All}
+use Rattle.std.specs.Prelude.{◌≡◌, ◌≢◌, ℕ, ◌*◌, ◌-◌, ◌^◌, ◌<◌, ◌≤◌, Bool, true, false, ⊤, List, []}
+use Rattle.std.specs.Prelude.{◌∷◌, ◌++◌, length, map, take, Some, All}
 use Rattle.sip_field.specs.Moduli.{m61_modulus}
 use Rattle.sip_vector.specs.declared.query.Query.{Query}
 use Rattle.sip_vector.specs.declared.update.Update.{Update}
 use Rattle.sip_vector.specs.Answers.{answer}
-use Rattle.sip_counts.specs.Joint.{Asked, after, is_misled, misled, bounds}
+use Rattle.sip_counts.specs.Joint.{CountedQuestion, after, is_misled, misled, bounds}
 use Rattle.sip_counts.specs.Strategies.{Strategy, IsOfBytes, replies}
 use Rattle.sip_wire.specs.declared.version.Version.{Version}
 use Rattle.sip_verifier.specs.CountClause.{accepts_in, bound_of, Written, questions_written}
@@ -27,14 +28,14 @@ use Rattle.sip_verifier.specs.Questions.{Question, updates}
 
 -- A query, by its row and by when replies to its kind are accepted. Those to a query whose check
 -- doesn't stand here never are.
-abbrev pub asked_by : (Kind → List ℕ → List (List ℕ) → Bool) → ℕ → KindRow → Asked
+abbrev pub asked_by : (Kind → List ℕ → List (List ℕ) → Bool) → ℕ → KindRow → CountedQuestion
 asked_by accepts depth (built kind) =
     record { accepts = accepts kind; is_right = kind.is_right; bound = bound_of depth kind }
 asked_by accepts depth missing =
     record { accepts = λ block replies. false; is_right = λ replies. false; bound = 0 }
 
 -- the queries of a run
-abbrev pub all_asked : Version → ℕ → List Update → List Query → List Asked
+abbrev pub all_asked : Version → ℕ → List Update → List Query → List CountedQuestion
 all_asked version depth stream queries =
     map (λ q. asked_by accepts_in depth (kind_row version depth stream q)) queries
 
@@ -55,7 +56,7 @@ module _ (i : Inquiry) (x : Exchange) where
   CanBeCounted query =
       OfKind i.version i.depth (updates i x) query (λ kind. kind.CanBeCounted)
 
-  abbrev pub asked_here : List Asked
+  abbrev pub asked_here : List CountedQuestion
   asked_here = all_asked i.version i.depth (updates i x) i.queries
 
   -- a vector of challenges, a block for each query, each below the modulus

@@ -4,10 +4,6 @@ use Rattle.sip_ports.specs.declared.port.TalkEvent.{TalkEvent}
 use Rattle.sip_ports.specs.Ports.{GoesOn, heard, outs}
 use Rattle.sip_replies.specs.Asking.{AreFrames, KeepsFrames, KeepsPart}
 use Rattle.sip_wire.specs.declared.version.Version.{Version}
-use Rattle.sip_verifier.specs.declared.session.SessionFault.{SessionFault}
-use Rattle.sip_verifier.specs.declared.session.SessionFault.TheVariants as faults
-use Rattle.sip_verifier.specs.declared.session.Verdict.{Verdict}
-use Rattle.sip_verifier.specs.declared.session.Verdict.TheVariants as verdicts
 use Rattle.sip_verifier.specs.declared.status.Port.TheVariants as ports
 use Rattle.sip_verifier.specs.declared.status.Status.{Status}
 use Rattle.sip_verifier.specs.declared.status.Status.TheVariants as statuses
@@ -73,13 +69,6 @@ module _ (old new before now : Option (List TalkEvent)) where
       pub said : List TalkEvent
       pub talk : GoesOn old new said
       pub wrote : KeepsFrames version before now (heard said)
-
-    -- what a call kept that asks
-    abbrev pub KeepsReplies : Result Verdict SessionFault → Type 0
-    KeepsReplies (Ok (verdicts.Rejected round reason)) = AllIsKept
-    KeepsReplies (Ok _) = WholeIsKept
-    KeepsReplies (Err faults.PeerFault) = FramesAreKept
-    KeepsReplies (Err _) = FrontIsKept
 
     -- what a call kept that asks all queries
     abbrev pub KeepsTalk : Result (Unit {0}) Status → Type 0

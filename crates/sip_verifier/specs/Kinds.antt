@@ -1,9 +1,11 @@
 -- The kinds of query, over any modulus: how the replies to one are read, when a helper that lies
 -- can win, and what an honest one replies. A run computes modulo 2^61 - 1.
-use Rattle.std.specs.Prelude.{◌≡◌, ◌<◌, ◌≤◌, ℕ, ◌-◌, ◌/◌, ℤ, nat_abs, Bool, false, nat_le, ⊤, List, [], length, All, if◌then◌else◌}
+use Rattle.std.specs.Prelude.{◌≡◌, ◌<◌, ◌≤◌, ℕ, ◌-◌, ◌/◌, ℤ, nat_abs, Bool, false, nat_le, ⊤, List}
+use Rattle.std.specs.Prelude.{[], length, All, if◌then◌else◌}
 use Rattle.sip_field.specs.Moduli.{m61_modulus}
 use Rattle.sip_vector.specs.declared.query.Query.{Query}
-use Rattle.sip_vector.specs.declared.query.Query.TheVariants.{Sub, Range, F2, Inner, Heavy, Share, Above}
+use Rattle.sip_vector.specs.declared.query.Query.TheVariants.{Sub, Range, F2, Inner, Heavy, Share}
+use Rattle.sip_vector.specs.declared.query.Query.TheVariants.{Above}
 use Rattle.sip_vector.specs.declared.update.Side.{Side}
 use Rattle.sip_vector.specs.declared.update.Side.TheVariants.{First, Second}
 use Rattle.sip_vector.specs.declared.update.Update.{Update}
@@ -47,7 +49,8 @@ pub record Kind : Type 1 where
   -- and of its numbers, over a modulus: they are small for it, as those of legal streams are for
   -- 2^61 - 1; others are the same as such modulo p
   pub AreSmall : Type 0
-  -- what an honest helper asks of it: that, and that the answer has no more entries than may be sent
+  -- what an honest helper asks of it: that, and that the answer has no more entries than may be
+  -- sent
   pub HasFew : Type 0
   -- what an honest helper replies at these challenges
   pub honest : List ℕ → List (List ℕ)

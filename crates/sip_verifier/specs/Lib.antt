@@ -27,12 +27,14 @@ pub mod GatherClause
 pub mod Sittings
 pub mod Given
 pub mod Asking
+pub mod AskClause
 pub mod Concluding
 pub mod CountClause
 pub mod JointClause
 pub mod CompletenessClause
 pub mod Promises
 pub mod RunClause
+pub mod CheckClause
 pub mod NextSeat
 pub mod ReplyBound
 pub mod LawProofs

@@ -1,11 +1,13 @@
 -- A query's seat: its challenges, its running numbers, and which streams these stand for.
-use Rattle.std.specs.Prelude.{◌≡◌, ℕ, ◌^◌, ◌==◌, ◌≤◌, Bool, true, false, ◌&&◌, nat_le, nat_lt, ℤ, nat_abs, List, length, take, All, IsTrue}
+use Rattle.std.specs.Prelude.{◌≡◌, ℕ, ◌^◌, ◌==◌, ◌≤◌, Bool, true, false, ◌&&◌, nat_le, nat_lt, ℤ}
+use Rattle.std.specs.Prelude.{nat_abs, List, length, take, All, IsTrue}
 use Rattle.sip_field.specs.Moduli.{m61_modulus}
 use Rattle.sip_mle.specs.StandsFor.{PointStandsFor}
 use Rattle.sip_tree.specs.Blocks.{total_after}
 use Rattle.sip_tree.specs.StandsFor.{RootStandsFor, AugRootStandsFor}
 use Rattle.sip_vector.specs.declared.query.Query.{Query}
-use Rattle.sip_vector.specs.declared.query.Query.TheVariants.{Sub, Range, F2, Inner, Heavy, Share, Above}
+use Rattle.sip_vector.specs.declared.query.Query.TheVariants.{Sub, Range, F2, Inner, Heavy, Share}
+use Rattle.sip_vector.specs.declared.query.Query.TheVariants.{Above}
 use Rattle.sip_vector.specs.declared.update.Side.{Side}
 use Rattle.sip_vector.specs.declared.update.Side.TheVariants.{First, Second}
 use Rattle.sip_vector.specs.declared.update.Update.{Update}

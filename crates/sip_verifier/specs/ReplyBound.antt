@@ -6,13 +6,14 @@ use Rattle.std.specs.Prelude.{ℕ, ◌+◌, ◌*◌, ◌≤◌, List, length, Op
 use Rattle.sip_ports.specs.declared.port.TalkEvent.{TalkEvent}
 use Rattle.sip_ports.specs.Ports.{GoesOn, heard}
 use Rattle.sip_vector.specs.declared.query.Query.{Query}
-use Rattle.sip_vector.specs.declared.query.Query.TheVariants.{Sub, Range, F2, Inner, Heavy, Share, Above}
+use Rattle.sip_vector.specs.declared.query.Query.TheVariants.{Sub, Range, F2, Inner, Heavy, Share}
+use Rattle.sip_vector.specs.declared.query.Query.TheVariants.{Above}
 use Rattle.sip_vector.specs.declared.update.Update.{Update}
 use Rattle.sip_vector.specs.Streams.{int_sum, vector}
 use Rattle.sip_vector.specs.Thresholds.{share_of}
 use Rattle.sip_wire.specs.declared.version.Version.{Version}
 use Rattle.sip_wire.specs.Table.{Field, entry_fields, leaf_fields, most_rows, node_fields, size}
-use Rattle.sip_heavy.specs.AcceptsHeavy.{Asked, most_nodes}
+use Rattle.sip_heavy.specs.AcceptsHeavy.{HeavyQuestion, most_nodes}
 use Rattle.sip_heavy.specs.Counting.{asked_over}
 use Rattle.sip_heavy.specs.Protocol.{reaches}
 use Rattle.sip_subvec.specs.Asking.{most_answer}
@@ -33,7 +34,7 @@ most_sum_bytes depth = 11 + 27 * depth
 
 -- of heavy hitters: the nodes of each level and its end, and a frame of leaves in full; nothing
 -- where the total is below the threshold
-abbrev pub most_node_bytes : Version → ℕ → Asked → ℕ
+abbrev pub most_node_bytes : Version → ℕ → HeavyQuestion → ℕ
 most_node_bytes version depth q =
     if reaches q
     then depth * (rows_frame (node_fields version) 1 * most_nodes q + 3)

@@ -6,7 +6,8 @@ use Rattle.sip_vector.specs.declared.update.Entry.{Entry}
 use Rattle.sip_vector.specs.declared.update.Side.{Side}
 use Rattle.sip_vector.specs.declared.update.Side.TheVariants.{First, Second}
 use Rattle.sip_vector.specs.declared.query.Query.{Query}
-use Rattle.sip_vector.specs.declared.query.Query.TheVariants.{Sub, Range, F2, Inner, Heavy, Share, Above}
+use Rattle.sip_vector.specs.declared.query.Query.TheVariants.{Sub, Range, F2, Inner, Heavy, Share}
+use Rattle.sip_vector.specs.declared.query.Query.TheVariants.{Above}
 use Rattle.sip_vector.specs.declared.update.Update.{Update}
 use Rattle.sip_vector.specs.Answers.{Answer, answer, pairs, number}
 use Rattle.sip_wire.specs.declared.message.Reason.{Reason}
@@ -69,8 +70,8 @@ rejection query round reason =
     codes "rejected query " ++ decimal query ++ codes " round " ++ decimal round ++ codes " "
     ++ reason_name reason ++ 10 ∷ []
 
--- the line of a helper that is dropped: its number, and the query's, the round and the reason of the
--- fault; a line feed
+-- the line of a helper that is dropped: its number, and the query's, the round and the reason of
+-- the fault; a line feed
 abbrev pub dropped : ℕ → ℕ → ℕ → Reason → List ℕ
 dropped helper query round reason =
     codes "dropped helper " ++ decimal helper ++ codes " query " ++ decimal query

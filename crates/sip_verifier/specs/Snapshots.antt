@@ -2,8 +2,8 @@
 use Rattle.std.specs.Prelude.{ℕ, List, Option, None, Some, IsSome}
 use Rattle.sip_ports.specs.declared.port.TalkEvent.{TalkEvent}
 
--- how often the stream, the seed, the link, the report and the record of the talk have failed, or how
--- often memory was refused to them
+-- how often the stream, the seed, the link, the report and the record of the talk have failed, or
+-- how often memory was refused to them
 pub record Counts : Type 0 where
   pub first : ℕ
   pub second : ℕ
@@ -37,6 +37,16 @@ telling told = record { told = Some told; faults = 0 }
 -- that of a port which is not there
 abbrev pub no_port : {T : Type 0} → PortState T
 no_port = record { told = None; faults = 0 }
+
+-- What a link or a sink tells, how often it has failed, and how often memory was refused to it.
+pub record SinkState : Type 0 where
+  pub told : Option (List TalkEvent)
+  pub faults : ℕ
+  pub wants : ℕ
+
+-- that of one, by what its trait says of it
+abbrev pub sink : {P : Type 0} → (P → Option (List TalkEvent)) → (P → ℕ) → (P → ℕ) → P → SinkState
+sink told faults wants it = record { told = told it; faults = faults it; wants = wants it }
 
 -- The bytes that the stream and the seed have to give, the events so far on the link, on the report
 -- and on the record of the talk, and how often these ports have failed.

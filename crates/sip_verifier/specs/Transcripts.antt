@@ -1,5 +1,5 @@
--- The transcript of a run: its head, with each query and its block of challenges, and then the bytes
--- that were received.
+-- The transcript of a run: its head, with each query and its block of challenges, and then the
+-- bytes that were received.
 use Rattle.std.specs.Prelude.{ℕ, List, ◌++◌, length}
 use Rattle.std.specs.List.{flat_map, zip}
 use Rattle.sip_vector.specs.declared.query.Query.{Query}

@@ -1,5 +1,5 @@
--- Verdicts of a run of `verify`: each line has the answer that accepted replies state, in order, and
--- none is left out.
+-- Verdicts of a run of `verify`: each line has the answer that accepted replies state, in order,
+-- and none is left out.
 use Rattle.std.specs.Prelude.{ℕ, List}
 use Rattle.sip_wire.specs.declared.message.Reason.{Reason}
 use Rattle.sip_verifier.specs.declared.status.Status.{Status}

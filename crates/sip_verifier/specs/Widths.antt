@@ -8,8 +8,8 @@ use Rattle.sip_vector.specs.Streams.{total}
 use Rattle.sip_vector.specs.Thresholds.{is_wide, share_of}
 use Rattle.sip_verifier.specs.QuerySeats.{RunningNumbers, Seated, aug_root_is}
 
--- the total of the query's side of a stream may have more entries of at least the threshold than are
--- asked for
+-- the total of the query's side of a stream may have more entries of at least the threshold than
+-- are asked for
 abbrev pub is_too_wide : List Update → Query → Bool
 is_too_wide stream (Heavy side at_least) = is_wide at_least (total stream side)
 is_too_wide stream (Share side num den) =

@@ -1,9 +1,11 @@
 //! What asks the questions of a run, in whatever manner.
 
-ghost use Rattle.std.specs.Prelude.{◌≡◌, ◌⊎◌, ◌<◌, ℕ, List, length, Err, false};
+ghost use Rattle.std.specs.Prelude.{◌≡◌, ◌<◌, ℕ, List, length, Err, false};
+ghost use Rattle.sip_verifier.specs.runs.Askers.{has_failed, unanswered_by};
 
 use crate::session::SessionFault;
 use sip_ports::{Link, PortStop, Sink};
+use sip_replies::AskStop;
 use sip_wire::Reason;
 
 /// Why a query has no answer.
@@ -16,17 +18,44 @@ pub enum Unanswered {
     Fault(SessionFault),
 }
 
+impl From<AskStop> for Unanswered {
+    ghost from_gives = { λ stop e. e ≡ unanswered_by stop };
+
+    fn from(stop: AskStop) -> Self {
+        match stop {
+            AskStop::Rejected { round, reason } => Unanswered::Rejected { round, reason },
+            AskStop::PeerFault => Unanswered::Fault(SessionFault::PeerFault),
+            AskStop::KeepFault => Unanswered::Fault(SessionFault::KeepFault),
+            AskStop::OutOfMemory | AskStop::KeepOutOfMemory => {
+                Unanswered::Fault(SessionFault::OutOfMemory)
+            }
+        }
+    }
+}
+
+/// Whether a call of a port failed, so that there is no verdict: a rejection is one.
+pub fn has_failed<G>(asked: &Result<G, Unanswered>) -> bool
+    ensures { result ≡ has_failed asked.now }
+{
+    match asked {
+        Err(Unanswered::Fault(_)) => true,
+        _ => false,
+    }
+}
+
 /// What asks the queries of a run one after another, over a link to where their stream is kept, and
 /// judges the replies.
 ///
 /// It has the queries and their challenges, and what it kept of the stream. How queries are asked
 /// and replies are judged is its `asking`: all that a run promises is said by that.
 pub trait Asker {
-    ghost use Rattle.sip_ports.specs.Ports.{HasCause, Lasts, Rose, SendsWhole};
+    ghost use Rattle.sip_ports.specs.Ports.{HasCause, Lasts, SendsWhole};
     ghost use Rattle.sip_vector.specs.declared.update.Update.{Update as AnyUpdate};
     ghost use Rattle.sip_wire.specs.declared.version.Version.{Version as AnyVersion};
-    ghost use Rattle.sip_verifier.specs.runs.Askers.{Asks, IsFirst, KeepsAsked, Remaining, behind, has_failed};
+    ghost use Rattle.sip_verifier.specs.AskClause.{AskClause};
+    ghost use Rattle.sip_verifier.specs.runs.Askers.{Asks, IsFirst, Remaining, behind, has_failed};
     ghost use Rattle.sip_verifier.specs.runs.Manners.{Asking, Question};
+    ghost use Rattle.sip_verifier.specs.Snapshots.{sink};
 
     /// An answer that was accepted, so that its line can be written.
     type Given: Drop;
@@ -76,15 +105,10 @@ pub trait Asker {
         ensures stands { (stream : List AnyUpdate) → stands stream self.old
             → stands stream self.new }
         ensures remaining { remaining self.new ≡ behind (has_failed result) (remaining self.old) }
-        ensures kept { KeepsAsked (L.talk link.old) (L.talk link.new) (C.talk keep.old)
-            (C.talk keep.new) (remaining self.old).version result }
-        ensures cause { result ≡ Err (Unanswered.Fault SessionFault.PeerFault)
-            → Rose (L.faults link.old) (L.faults link.new) }
-        ensures keep_cause { result ≡ Err (Unanswered.Fault SessionFault.KeepFault)
-            → Rose (C.faults keep.old) (C.faults keep.new) }
-        ensures memory { result ≡ Err (Unanswered.Fault SessionFault.OutOfMemory)
-            → Rose (L.wants link.old) (L.wants link.new)
-            ⊎ Rose (C.wants keep.old) (C.wants keep.new) }
+        ensures keeps { AskClause (remaining self.old).version
+            (sink L.talk L.faults L.wants link.old) (sink L.talk L.faults L.wants link.new)
+            (sink C.talk C.faults C.wants keep.old) (sink C.talk C.faults C.wants keep.new)
+            result }
         ensures link { Lasts L.faults L.wants L.is_sure link.old link.new }
         ensures keep { Lasts C.faults C.wants C.is_sure keep.old keep.new };
 

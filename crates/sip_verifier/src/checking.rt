@@ -1,22 +1,23 @@
 //! A whole run of the verifier.
 
-ghost use Rattle.std.specs.Prelude.{◌≡◌, ◌⊎◌, ◌≤◌, ℕ, List, Ok, Err, false, length, map, All, IfOk, MatchResult};
-ghost use Rattle.sip_ports.specs.Ports.{Lasts, Rose};
+ghost use Rattle.std.specs.Prelude.{◌≡◌, ◌⊎◌, ◌≤◌, List, Ok, Err, false, length, All, IfOk};
+ghost use Rattle.std.specs.Prelude.{MatchResult};
+ghost use Rattle.sip_ports.specs.Ports.{Lasts};
 ghost use Rattle.sip_vector.specs.declared.update.Update.{Update as AnyUpdate};
 ghost use Rattle.sip_wire.specs.Table.{most_queries};
 ghost use Rattle.sip_wire.specs.Versions.{Speaks};
 ghost use Rattle.sip_verifier.specs.declared.session.SessionStart.{SessionStart as AnyStart};
+ghost use Rattle.sip_verifier.specs.CheckClause.{CheckClause};
 ghost use Rattle.sip_verifier.specs.Concluding.{Ended, GoesBehind, Reports, status_of};
 ghost use Rattle.sip_verifier.specs.Exchanges.{Exchange, TakesAtMost};
 ghost use Rattle.sip_verifier.specs.inside.Ending.{status_of_start};
 ghost use Rattle.sip_verifier.specs.Inquiries.{Inquiry};
-ghost use Rattle.sip_verifier.specs.Keeping.{KeepsTalk};
-ghost use Rattle.sip_verifier.specs.Snapshots.{Counts, counts, port, snapshot};
+ghost use Rattle.sip_verifier.specs.Snapshots.{Counts, port, sink, snapshot};
 ghost use Rattle.sip_verifier.specs.QuerySeats.{StandsFor};
 ghost use Rattle.sip_verifier.specs.RunClause.{RunClause};
 ghost use Rattle.sip_verifier.specs.Seats.{Seating};
 ghost use Rattle.sip_verifier.specs.Sittings.{Starts};
-ghost use Rattle.sip_verifier.specs.Statuses.{FaultClause, Stops, stops_asking};
+ghost use Rattle.sip_verifier.specs.Statuses.{FaultClause};
 ghost use Rattle.sip_verifier.specs.Tasks.{CanBeDone};
 
 use crate::concluding::conclude_run;
@@ -24,20 +25,21 @@ use crate::ending::status_of_start;
 use crate::gathering::gather;
 use crate::{Seats, Session, Status, Task};
 use sip_ports::{Link, Sink, Source};
-use sip_vector::{Depth, Query};
-use sip_wire::Version;
+use sip_vector::Depth;
+use sip_wire::{MOST_QUERIES, Version};
 use std::alloc::Global;
 use std::mem;
 
-/// The session of the seats that were gathered, if they were. These are taken from where they stand:
-/// they are large, and an argument would be a second place for them on the stack of the run.
+/// The session of the seats that were gathered, if they were. These are taken from where they
+/// stand: they are large, and an argument would be a second place for them on the stack of the run.
 #[inline(never)]
-pub fn open(
+pub fn open_session(
     alloc: Global,
     version: Version,
     gathered: &mut Result<Seats, Status>,
 ) -> Result<Box<Session>, Status>
-    requires { IfOk gathered.old (λ seats. All (λ s. Speaks version seats.depth s.query) seats.seats) }
+    requires { IfOk gathered.old
+        (λ seats. All (λ s. Speaks version seats.depth s.query) seats.seats) }
     ensures { MatchResult result
         (λ session. (seats : Seating) × (gathered.old ≡ Ok seats)
         × Starts version seats (Ok session.value))
@@ -54,44 +56,40 @@ pub fn open(
     }
 }
 
-/// Asks all queries of a session in order over a link to where its stream is kept, writes the line of each verdict to `report`, up
-/// to the first stop, and says farewell where all were accepted. It takes no memory; the time is linear in the replies.
+/// Asks all queries of a session in order over a link to where its stream is kept, writes the line
+/// of each verdict to `report`, up to the first stop, and says farewell where all were accepted. It
+/// takes no memory; the time is linear in the replies.
 ///
-/// `keep` gets each frame's bytes as soon as they came, before they are judged; of a frame that the link's failure cut, it gets none.
+/// `keep` gets each frame's bytes as soon as they came, before they are judged; of a frame that the
+/// link's failure cut, it gets none.
 ///
 /// # Errors
 ///
-/// How the run ends: `Rejected`, behind the line of the rejection; `WriteFault` of the report, behind a front of a line; `WriteFault`
-/// of `keep` and `PeerFault`, behind the lines before. `OutOfMemory` is one of these three, and comes only where a port that it was
-/// given wanted memory.
+/// How the run ends: `Rejected`, behind the line of the rejection; `WriteFault` of the report,
+/// behind a front of a line; `WriteFault` of `keep` and `PeerFault`, behind the lines before.
+/// `OutOfMemory` is one of these three, and comes only where a port that it was given wanted
+/// memory.
 #[inline(never)]
-pub fn conclude<L: Link, K: Sink, C: Sink>(
+pub fn conclude_session<L: Link, K: Sink, C: Sink>(
     session: &mut Session,
-    queries: &[Query],
     peer: &mut L,
     report: &mut K,
     keep: &mut C,
 ) -> Result<(), Status>
-    requires count { length session.old.left ≡ length queries.now }
-    requires most { length queries.now ≤ most_queries }
+    requires most { length session.old.left ≤ most_queries }
     requires live { session.old.spent ≡ false }
-    ensures ends { (i : Inquiry) (x : Exchange) (before now : Counts) → queries.now ≡ i.queries
+    ensures ends { (i : Inquiry) (x : Exchange) (before now : Counts)
         → GoesBehind i x session.old (L.talk peer.old) (L.talk peer.new) (K.talk report.old)
         (K.talk report.new)
         → FaultClause before now (status_of result) → Ended i x before now (status_of result) }
-    ensures kept { KeepsTalk (L.talk peer.old) (L.talk peer.new) (C.talk keep.old) (C.talk keep.new)
-        session.old.version result }
     ensures wrote { (stream : List AnyUpdate)
-        → map (λ seat. seat.query) session.old.left ≡ queries.now
         → All (StandsFor session.old.depth stream) session.old.left
         → Reports (K.talk report.old) (K.talk report.new) }
-    ensures fault { (first firsts second seconds : ℕ) → Stops stops_asking
-        (counts first second (L.faults peer.old) (K.faults report.old) (C.faults keep.old))
-        (counts firsts seconds (L.faults peer.new) (K.faults report.new) (C.faults keep.new))
+    ensures keeps { CheckClause session.old.version
+        (sink L.talk L.faults L.wants peer.old) (sink L.talk L.faults L.wants peer.new)
+        (sink K.talk K.faults K.wants report.old) (sink K.talk K.faults K.wants report.new)
+        (sink C.talk C.faults C.wants keep.old) (sink C.talk C.faults C.wants keep.new)
         result }
-    ensures memory { result ≡ Err Status.OutOfMemory → Rose (L.wants peer.old) (L.wants peer.new)
-        ⊎ Rose (K.wants report.old) (K.wants report.new)
-        ⊎ Rose (C.wants keep.old) (C.wants keep.new) }
     ensures peer { Lasts L.faults L.wants L.is_sure peer.old peer.new }
     ensures report { Lasts K.faults K.wants K.is_sure report.old report.new }
     ensures keep { Lasts C.faults C.wants C.is_sure keep.old keep.new }
@@ -100,7 +98,7 @@ pub fn conclude<L: Link, K: Sink, C: Sink>(
 }
 
 /// All that a run does, up to its first stop.
-fn steps<A: Source, B: Source, L: Link, K: Sink, C: Sink>(
+fn check_steps<A: Source, B: Source, L: Link, K: Sink, C: Sink>(
     alloc: Global,
     task: &Task,
     first: &mut A,
@@ -127,22 +125,25 @@ fn steps<A: Source, B: Source, L: Link, K: Sink, C: Sink>(
 {
     let levels = task.depth.get();
     prove!(levels >= 1 && levels <= Depth::MOST);
+    let asked = task.queries.len();
+    prove!(asked <= MOST_QUERIES);
     let version = task.version();
     // Nothing is gathered yet. What is stays here until the session has it.
     let mut gathered = Err(Status::SeedSpent);
     gather(task, first, second, peer, keep, &mut gathered);
-    let mut session = open(alloc, version, &mut gathered)?;
-    conclude(&mut *session, &task.queries, peer, report, keep)
+    let mut session = open_session(alloc, version, &mut gathered)?;
+    conclude_session(&mut *session, peer, report, keep)
 }
 
-/// Does a task: draws the challenges from `second`, reads the stream of `first` and sends it over `peer`, asks each query, judges
-/// the replies and writes a line for each to `report`.
+/// Does a task: draws the challenges from `second`, reads the stream of `first` and sends it over
+/// `peer`, asks each query, judges the replies and writes a line for each to `report`.
 ///
-/// After a rejection its line is written and nothing more is sent. The memory is that of [`crate::Session::new`], which doesn't grow with the
-/// stream; the time is linear in the stream and the replies, with at most `depth` multiplications for each record and query.
+/// After a rejection its line is written and nothing more is sent. The memory is that of
+/// [`crate::Session::new`], which doesn't grow with the stream; the time is linear in the stream
+/// and the replies, with at most `depth` multiplications for each record and query.
 ///
-/// `keep` gets the run's transcript: its head before anything is said, and each frame's bytes as soon as they came, before they are
-/// judged; of a frame that the link's failure cut, it gets none.
+/// `keep` gets the run's transcript: its head before anything is said, and each frame's bytes as
+/// soon as they came, before they are judged; of a frame that the link's failure cut, it gets none.
 #[inline(never)]
 pub fn check_stream<A: Source, B: Source, L: Link, K: Sink, C: Sink>(
     alloc: Global,
@@ -169,7 +170,7 @@ pub fn check_stream<A: Source, B: Source, L: Link, K: Sink, C: Sink>(
     ensures report { Lasts K.faults K.wants K.is_sure report.old report.new }
     ensures keep { Lasts C.faults C.wants C.is_sure keep.old keep.new }
 {
-    match steps(alloc, task, first, second, peer, report, keep) {
+    match check_steps(alloc, task, first, second, peer, report, keep) {
         Ok(()) => Status::Accepted,
         Err(status) => status,
     }

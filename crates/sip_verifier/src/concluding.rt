@@ -1,17 +1,18 @@
 //! All queries of a run, asked and reported.
 
-ghost use Rattle.std.specs.Prelude.{◌≡◌, ◌⊎◌, ◌<◌, ◌≤◌, ℕ, List, false, length, Err, OnOk};
-ghost use Rattle.sip_ports.specs.Ports.{Lasts, Rose};
+ghost use Rattle.std.specs.Prelude.{◌≡◌, ◌<◌, ◌≤◌, ℕ, List, false, length, OnOk};
+ghost use Rattle.sip_ports.specs.Ports.{Lasts};
 ghost use Rattle.sip_vector.specs.declared.update.Update.{Update as AnyUpdate};
 ghost use Rattle.sip_wire.specs.Table.{most_queries};
+ghost use Rattle.sip_verifier.specs.CheckClause.{CheckClause};
 ghost use Rattle.sip_verifier.specs.Exchanges.{Exchange};
-ghost use Rattle.sip_verifier.specs.Keeping.{KeepsTalk};
-ghost use Rattle.sip_verifier.specs.Snapshots.{Counts, counts};
-ghost use Rattle.sip_verifier.specs.runs.Askers.{GoesBehind, IsFirst, behind, blocks_in, queries_in};
+ghost use Rattle.sip_verifier.specs.Snapshots.{Counts, sink};
+ghost use Rattle.sip_verifier.specs.runs.Askers.{GoesBehind, IsFirst, behind, blocks_in};
+ghost use Rattle.sip_verifier.specs.runs.Askers.{queries_in};
 ghost use Rattle.sip_verifier.specs.runs.Concluding.{Ended, Reports, status_of};
 ghost use Rattle.sip_verifier.specs.runs.Progress.{Checks, ChecksAll};
 ghost use Rattle.sip_verifier.specs.runs.Runs.{Run, updates};
-ghost use Rattle.sip_verifier.specs.Statuses.{FaultClause, Stops, stops_asking};
+ghost use Rattle.sip_verifier.specs.Statuses.{FaultClause};
 
 use crate::Status;
 use crate::asker::{Asker, Unanswered};
@@ -35,19 +36,15 @@ fn check_next<Q: Asker, L: Link, K: Sink, C: Sink>(
         (Q.asking (Q.remaining asker.old).version (Q.remaining asker.old).depth stream)
         ask.0 ask.1 number (L.talk peer.old) (L.talk peer.new) (K.talk report.old)
         (K.talk report.new) result }
-    ensures kept { KeepsTalk (L.talk peer.old) (L.talk peer.new) (C.talk keep.old) (C.talk keep.new)
-        (Q.remaining asker.old).version result }
     ensures stands { (stream : List AnyUpdate) → Q.stands stream asker.old
         → Q.stands stream asker.new }
     ensures remaining { OnOk result
         (Q.remaining asker.new ≡ behind false (Q.remaining asker.old)) }
-    ensures fault { (first firsts second seconds : ℕ) → Stops stops_asking
-        (counts first second (L.faults peer.old) (K.faults report.old) (C.faults keep.old))
-        (counts firsts seconds (L.faults peer.new) (K.faults report.new) (C.faults keep.new))
+    ensures keeps { CheckClause (Q.remaining asker.old).version
+        (sink L.talk L.faults L.wants peer.old) (sink L.talk L.faults L.wants peer.new)
+        (sink K.talk K.faults K.wants report.old) (sink K.talk K.faults K.wants report.new)
+        (sink C.talk C.faults C.wants keep.old) (sink C.talk C.faults C.wants keep.new)
         result }
-    ensures memory { result ≡ Err Status.OutOfMemory → Rose (L.wants peer.old) (L.wants peer.new)
-        ⊎ Rose (K.wants report.old) (K.wants report.new)
-        ⊎ Rose (C.wants keep.old) (C.wants keep.new) }
     ensures peer { Lasts L.faults L.wants L.is_sure peer.old peer.new }
     ensures report { Lasts K.faults K.wants K.is_sure report.old report.new }
     ensures keep { Lasts C.faults C.wants C.is_sure keep.old keep.new }
@@ -80,19 +77,15 @@ fn check_all<Q: Asker, L: Link, K: Sink, C: Sink>(
         (Q.asking (Q.remaining asker.old).version (Q.remaining asker.old).depth stream)
         (queries_in (Q.remaining asker.old).left) (blocks_in (Q.remaining asker.old).left)
         (L.talk peer.old) (L.talk peer.new) (K.talk report.old) (K.talk report.new) result }
-    ensures kept { KeepsTalk (L.talk peer.old) (L.talk peer.new) (C.talk keep.old) (C.talk keep.new)
-        (Q.remaining asker.old).version result }
     ensures version { OnOk result
         ((Q.remaining asker.new).version ≡ (Q.remaining asker.old).version) }
     ensures depth { OnOk result
         ((Q.remaining asker.new).depth ≡ (Q.remaining asker.old).depth) }
-    ensures fault { (first firsts second seconds : ℕ) → Stops stops_asking
-        (counts first second (L.faults peer.old) (K.faults report.old) (C.faults keep.old))
-        (counts firsts seconds (L.faults peer.new) (K.faults report.new) (C.faults keep.new))
+    ensures keeps { CheckClause (Q.remaining asker.old).version
+        (sink L.talk L.faults L.wants peer.old) (sink L.talk L.faults L.wants peer.new)
+        (sink K.talk K.faults K.wants report.old) (sink K.talk K.faults K.wants report.new)
+        (sink C.talk C.faults C.wants keep.old) (sink C.talk C.faults C.wants keep.new)
         result }
-    ensures memory { result ≡ Err Status.OutOfMemory → Rose (L.wants peer.old) (L.wants peer.new)
-        ⊎ Rose (K.wants report.old) (K.wants report.new)
-        ⊎ Rose (C.wants keep.old) (C.wants keep.new) }
     ensures peer { Lasts L.faults L.wants L.is_sure peer.old peer.new }
     ensures report { Lasts K.faults K.wants K.is_sure report.old report.new }
     ensures keep { Lasts C.faults C.wants C.is_sure keep.old keep.new }
@@ -115,7 +108,8 @@ fn check_all<Q: Asker, L: Link, K: Sink, C: Sink>(
 ///
 /// How the run ends: `Rejected`, behind the line of the rejection; `WriteFault` of the report,
 /// behind a front of a line; `WriteFault` of `keep` and `PeerFault`, behind the lines before.
-/// `OutOfMemory` is one of these three, and comes only where a port that it was given wanted memory.
+/// `OutOfMemory` is one of these three, and comes only where a port that it was given wanted
+/// memory.
 #[inline(never)]
 pub fn conclude_run<Q: Asker, L: Link, K: Sink, C: Sink>(
     asker: &mut Q,
@@ -130,17 +124,13 @@ pub fn conclude_run<Q: Asker, L: Link, K: Sink, C: Sink>(
         (K.talk report.old) (K.talk report.new)
         → Q.stands (updates r x) asker.old → FaultClause before now (status_of result)
         → Ended Q.asking r x before now (status_of result) }
-    ensures kept { KeepsTalk (L.talk peer.old) (L.talk peer.new) (C.talk keep.old) (C.talk keep.new)
-        (Q.remaining asker.old).version result }
     ensures wrote { (stream : List AnyUpdate) → Q.stands stream asker.old
         → Reports (K.talk report.old) (K.talk report.new) }
-    ensures fault { (first firsts second seconds : ℕ) → Stops stops_asking
-        (counts first second (L.faults peer.old) (K.faults report.old) (C.faults keep.old))
-        (counts firsts seconds (L.faults peer.new) (K.faults report.new) (C.faults keep.new))
+    ensures keeps { CheckClause (Q.remaining asker.old).version
+        (sink L.talk L.faults L.wants peer.old) (sink L.talk L.faults L.wants peer.new)
+        (sink K.talk K.faults K.wants report.old) (sink K.talk K.faults K.wants report.new)
+        (sink C.talk C.faults C.wants keep.old) (sink C.talk C.faults C.wants keep.new)
         result }
-    ensures memory { result ≡ Err Status.OutOfMemory → Rose (L.wants peer.old) (L.wants peer.new)
-        ⊎ Rose (K.wants report.old) (K.wants report.new)
-        ⊎ Rose (C.wants keep.old) (C.wants keep.new) }
     ensures peer { Lasts L.faults L.wants L.is_sure peer.old peer.new }
     ensures report { Lasts K.faults K.wants K.is_sure report.old report.new }
     ensures keep { Lasts C.faults C.wants C.is_sure keep.old keep.new }

@@ -1,5 +1,5 @@
-//! Laws: reports that keep to the clause of verdicts keep to that of counts. These functions do nothing: each contract is a fact
-//! that holds.
+//! Laws: reports that keep to the clause of verdicts keep to that of counts. These functions do
+//! nothing: each contract is a fact that holds.
 
 ghost use Rattle.std.specs.Prelude.{ℕ, List, All};
 ghost use Rattle.sip_vector.specs.declared.update.Update.{Update};

@@ -2,7 +2,8 @@
 
 ghost use Rattle.std.specs.Prelude.{◌≡◌, MatchResult};
 ghost use Rattle.sip_ports.specs.declared.port.PortStop.{PortStop as AnyPortStop};
-ghost use Rattle.sip_verifier.specs.inside.Ending.{status_of_fault, status_of_keep, status_of_link, status_of_report, status_of_start};
+ghost use Rattle.sip_verifier.specs.inside.Ending.{status_of_fault, status_of_keep, status_of_link};
+ghost use Rattle.sip_verifier.specs.inside.Ending.{status_of_report, status_of_start};
 
 use crate::session::{SessionFault, SessionStart};
 use crate::{Port, Status};

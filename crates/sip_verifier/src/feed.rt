@@ -1,6 +1,7 @@
 //! A stream on its way to the helper.
 
-ghost use Rattle.std.specs.Prelude.{◌≡◌, ◌≢◌, ◌<◌, ◌≤◌, ◌^◌, ◌==◌, ◌++◌, ◌∷◌, [], ℕ, List, length, pos, false, IsSome};
+ghost use Rattle.std.specs.Prelude.{◌≡◌, ◌≢◌, ◌<◌, ◌≤◌, ◌^◌, ◌==◌, ◌++◌, ◌∷◌, [], ℕ, List, length};
+ghost use Rattle.std.specs.Prelude.{pos, false, IsSome};
 ghost use Rattle.std.specs.Io.KnownBytes.{Consumes};
 ghost use Rattle.std.specs.Result.{is_err};
 ghost use Rattle.sip_ports.specs.Ports.{HasCause, Lasts, SendsWhole};
@@ -18,8 +19,9 @@ use sip_vector::{Depth, Update};
 use sip_wire::{MOST_ROWS, Message, Version, encode, encode_updates};
 use std::marker::Model;
 
-/// Sends a stream in frames of at most 512 updates, in a version. What waits for a frame is kept in a buffer of a fixed size, where
-/// the caller may read it before it goes out. Nothing of it is cleared for the next frame.
+/// Sends a stream in frames of at most 512 updates, in a version. What waits for a frame is kept in
+/// a buffer of a fixed size, where the caller may read it before it goes out. Nothing of it is
+/// cleared for the next frame.
 #[derive(Drop)]
 pub struct Feed {
     version: Version,
@@ -62,10 +64,10 @@ impl Feed {
         }
     }
 
-    /// The same in a place that is lent for it. The rows are copied within this call: where a feed is answered by value, they are
-    /// twice on the stack of the caller for as long as that runs.
+    /// The same in a place that is lent for it. The rows are copied within this call: where a feed
+    /// is answered by value, they are twice on the stack of the caller for as long as that runs.
     #[inline(never)]
-    pub(crate) fn new_in(place: &mut Option<Feed>, version: Version) -> &mut Feed
+    pub fn new_in(place: &mut Option<Feed>, version: Version) -> &mut Feed
         ensures { result.now ≡ record { version = version; waiting = []; is_spent = false } }
     {
         place.insert(Feed::new(version))
@@ -75,7 +77,8 @@ impl Feed {
     ///
     /// # Errors
     ///
-    /// Those of the sink, which a front of the opening has then reached that is shorter than it. The feed is then spent.
+    /// Those of the sink, which a front of the opening has then reached that is shorter than it.
+    /// The feed is then spent.
     #[inline(never)]
     pub fn begin<K: Sink>(&mut self, sink: &mut K, depth: Depth) -> Result<(), PortStop>
         requires unspent { self.old.is_spent ≡ false }
@@ -125,8 +128,8 @@ impl Feed {
         self.count += 1;
     }
 
-    /// Takes legal records that a source holds whole, which wait for their frame, until one is missing to fill it, or the next is
-    /// not legal or not held whole.
+    /// Takes legal records that a source holds whole, which wait for their frame, until one is
+    /// missing to fill it, or the next is not legal or not held whole.
     pub fn take_held<S: Source>(&mut self, reader: &mut Reader, source: &mut S)
         requires few { length self.old.waiting < most_rows }
         requires shallow { reader.old.depth ≤ deepest self.old.version }
@@ -146,7 +149,8 @@ impl Feed {
     ///
     /// # Errors
     ///
-    /// Those of the sink, which a front of the frame has then reached that is shorter than it. The feed is then spent, and nothing waits.
+    /// Those of the sink, which a front of the frame has then reached that is shorter than it. The
+    /// feed is then spent, and nothing waits.
     #[inline(never)]
     pub fn send<K: Sink>(&mut self, sink: &mut K) -> Result<(), PortStop>
         requires unspent { self.old.is_spent ≡ false }
@@ -164,7 +168,8 @@ impl Feed {
         sent
     }
 
-    /// Sends the updates that wait as a frame, in one write. They go on waiting, so that another sink can have them too.
+    /// Sends the updates that wait as a frame, in one write. They go on waiting, so that another
+    /// sink can have them too.
     ///
     /// # Errors
     ///
@@ -187,12 +192,13 @@ impl Feed {
         self.count = 0;
     }
 
-    /// Takes one more update of the stream, and sends a frame as soon as it is full, in one write: [`push`](Feed::push), and then
-    /// [`send`](Feed::send) where those that wait fill a frame.
+    /// Takes one more update of the stream, and sends a frame as soon as it is full, in one write:
+    /// [`push`](Feed::push), and then [`send`](Feed::send) where those that wait fill a frame.
     ///
     /// # Errors
     ///
-    /// Those of the sink, which a front of the frame has then reached that is shorter than it. The feed is then spent, and nothing waits.
+    /// Those of the sink, which a front of the frame has then reached that is shorter than it. The
+    /// feed is then spent, and nothing waits.
     pub fn update<K: Sink>(&mut self, sink: &mut K, update: &Update) -> Result<(), PortStop>
         requires unspent { self.old.is_spent ≡ false }
         requires room { length self.old.waiting < most_rows }
@@ -217,8 +223,8 @@ impl Feed {
     ///
     /// # Errors
     ///
-    /// Those of the sink, which a front of these bytes has then reached that is shorter than they are. The feed is then
-    /// spent, and nothing waits.
+    /// Those of the sink, which a front of these bytes has then reached that is shorter than they
+    /// are. The feed is then spent, and nothing waits.
     #[inline(never)]
     pub fn finish<K: Sink>(&mut self, sink: &mut K) -> Result<(), PortStop>
         requires { self.old.is_spent ≡ false }

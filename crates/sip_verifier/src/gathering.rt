@@ -1,6 +1,8 @@
 //! All that a verifier does until the stream has ended.
 
-ghost use Rattle.std.specs.Prelude.{◌≡◌, ◌≢◌, ◌⊎◌, ◌<◌, ◌^◌, ◌++◌, ◌∷◌, [], map, ℕ, List, length, All, Some, Ok, Err, IsSome, IfOk, OnOk, MatchResult, false, pos};
+ghost use Rattle.std.specs.Prelude.{◌≡◌, ◌≢◌, ◌⊎◌, ◌<◌, ◌^◌, ◌++◌, ◌∷◌, [], map, ℕ, List, length};
+ghost use Rattle.std.specs.Prelude.{All, Some, Ok, Err, IsSome, IfOk, OnOk, MatchResult, false};
+ghost use Rattle.std.specs.Prelude.{pos};
 ghost use Rattle.sip_ports.specs.Ports.{HasCause, Lasts, Rose, SendsWhole};
 ghost use Rattle.sip_ports.specs.declared.port.TalkEvent.{TalkEvent as AnyEvent};
 ghost use Rattle.sip_wire.specs.Table.{most_rows};
@@ -11,8 +13,8 @@ ghost use Rattle.sip_vector.specs.declared.update.Update.{Update as AnyUpdate};
 ghost use Rattle.sip_stream.specs.declared.fault.StreamFault.{StreamFault as AnyStreamFault};
 ghost use Rattle.sip_verifier.specs.inside.Drawing.{Draws};
 ghost use Rattle.sip_verifier.specs.inside.Ending.{status_of_stream};
-ghost use Rattle.sip_verifier.specs.Feeding.{due_with, waiting_with};
-ghost use Rattle.sip_verifier.specs.inside.Passing.{left, taken_with, weighed};
+ghost use Rattle.sip_verifier.specs.Feeding.{due_with};
+ghost use Rattle.sip_verifier.specs.inside.Passing.{CanBeTaken, TakesNext, left, weighed};
 ghost use Rattle.sip_verifier.specs.QuerySeats.{HaveRoom};
 ghost use Rattle.sip_verifier.specs.Seats.{AreSeats};
 ghost use Rattle.std.specs.Result.{is_err};
@@ -84,8 +86,8 @@ pub fn draw<B: Source>(
     }
 }
 
-/// Takes one more record of the stream, which waits for its frame. With the last one of a frame the seats take the frame's updates as
-/// a block, and it is sent, in one write.
+/// Takes one more record of the stream, which waits for its frame. With the last one of a frame the
+/// seats take the frame's updates as a block, and it is sent, in one write.
 fn pass_on<K: Sink>(
     update: &Update,
     feed: &mut Feed,
@@ -93,27 +95,11 @@ fn pass_on<K: Sink>(
     peer: &mut K,
 ) -> Result<(), PortStop>
     requires unspent { feed.old.is_spent ≡ false }
-    requires few { length feed.old.waiting < most_rows }
-    requires fits { update.now.item < 256 ^ index_width feed.old.version }
-    requires delta { update.now.delta ≢ pos 0 }
-    requires item { update.now.item < 2 ^ seats.old.depth }
-    requires items { All (λ u. u.item < 2 ^ seats.old.depth) feed.old.waiting }
-    requires room { (side : AnySide)
-        → HaveRoom seats.old.seats (feed.old.waiting ++ update.now ∷ []) side }
+    requires next { CanBeTaken update.now feed.old seats.old }
     ensures talk { SendsWhole (K.talk peer.old)
         (K.talk peer.new) result (due_with feed.old.version feed.old.waiting update.now) }
-    ensures version { feed.new.version ≡ feed.old.version }
-    ensures waiting { OnOk result (feed.new.waiting
-        ≡ waiting_with feed.old.waiting update.now) }
-    ensures few { OnOk result (length feed.new.waiting < most_rows) }
-    ensures items { OnOk result (All (λ u. u.item < 2 ^ seats.old.depth) feed.new.waiting) }
+    ensures takes { TakesNext update.now feed.old feed.new seats.old seats.new result }
     ensures spent { feed.new.is_spent ≡ is_err result }
-    ensures depth { seats.new.depth ≡ seats.old.depth }
-    ensures stands { (depth : ℕ) (queries : List AnyQuery) (blocks : List (List ℕ))
-        (stream : List AnyUpdate)
-        → AreSeats depth queries blocks stream seats.old
-        → AreSeats depth queries blocks
-        (stream ++ taken_with feed.old.waiting update.now) seats.new }
     ensures cause { HasCause K.faults K.wants K.is_sure peer.old peer.new result }
 {
     feed.push(update);
@@ -124,15 +110,16 @@ fn pass_on<K: Sink>(
     feed.send(peer)
 }
 
-/// Opens the talk, reads the stream of `first` to its end, sends it on over `peer` and adds it to the
-/// seats. Answers the weights of the stream's sides. Nothing is heard, so a sink is enough. There is
-/// no allocator: see [`gather`], which draws the seats before.
+/// Opens the talk, reads the stream of `first` to its end, sends it on over `peer` and adds it to
+/// the seats. Answers the weights of the stream's sides. Nothing is heard, so a sink is enough.
+/// There is no allocator: see [`gather`], which draws the seats before.
 ///
 /// # Errors
 ///
-/// `PeerFault` of the opening; then what comes first while the stream is read and sent: `BadStream`,
-/// `ReadFault` of `first`, `PeerFault`. `OutOfMemory` comes only where a port's count of wants rose.
-/// The end of the stream was then not sent whole, and what the seats stand for is not said.
+/// `PeerFault` of the opening; then what comes first while the stream is read and sent:
+/// `BadStream`, `ReadFault` of `first`, `PeerFault`. `OutOfMemory` comes only where a port's count
+/// of wants rose. The end of the stream was then not sent whole, and what the seats stand for is
+/// not said.
 #[inline(never)]
 pub fn follow<A: Source, K: Sink>(
     task: &Task,
@@ -178,7 +165,7 @@ pub fn follow<A: Source, K: Sink>(
 }
 
 /// All steps of [`gather`]. The seats are left in `gathered`, as they are where the steps stop.
-fn lead<A: Source, B: Source, L: Link, C: Sink>(
+fn gather_all<A: Source, B: Source, L: Link, C: Sink>(
     task: &Task,
     first: &mut A,
     second: &mut B,
@@ -212,24 +199,24 @@ fn lead<A: Source, B: Source, L: Link, C: Sink>(
 }
 
 /// Draws the challenges from 32 bytes of `second`, writes the head of the run's transcript to
-/// `keep`, opens the talk, reads the stream of `first` to its end, sends it on over `peer` and keeps
-/// the seats that stand for it. Answers the weights of the stream's sides, zeros where there are no
-/// seats.
+/// `keep`, opens the talk, reads the stream of `first` to its end, sends it on over `peer` and
+/// keeps the seats that stand for it. Answers the weights of the stream's sides, zeros where there
+/// are no seats.
 ///
-/// The seats, or why there are none, are left in `gathered`, whatever stood there: so they stay where
-/// they were drawn, since they are too large to be moved about.
+/// The seats, or why there are none, are left in `gathered`, whatever stood there: so they stay
+/// where they were drawn, since they are too large to be moved about.
 ///
 /// There is no allocator here: what is kept of a stream has a fixed size, whatever its length. The
 /// seats take the records in blocks of 512: the time for each record is one look-up and one
-/// multiplication for each seven levels and query, and that of their tables once a block. A frame is
-/// sent for each 512 records, in one write.
+/// multiplication for each seven levels and query, and that of their tables once a block. A frame
+/// is sent for each 512 records, in one write.
 ///
 /// # Errors
 ///
 /// The first in this order: `ReadFault` of `second`, `BadSeed`, `SeedSpent`; then `WriteFault` of
-/// `keep`, before anything is said; then `PeerFault` of the opening; then what comes first while the
-/// stream is read and sent: `BadStream`, `ReadFault` of `first`, `PeerFault`. `OutOfMemory` comes
-/// only where a port's count of wants rose. The end of the stream was then not sent whole.
+/// `keep`, before anything is said; then `PeerFault` of the opening; then what comes first while
+/// the stream is read and sent: `BadStream`, `ReadFault` of `first`, `PeerFault`. `OutOfMemory`
+/// comes only where a port's count of wants rose. The end of the stream was then not sent whole.
 #[inline(never)]
 pub fn gather<A: Source, B: Source, L: Link, C: Sink>(
     task: &Task,
@@ -253,7 +240,7 @@ pub fn gather<A: Source, B: Source, L: Link, C: Sink>(
     ensures peer { Lasts L.faults L.wants L.is_sure peer.old peer.new }
     ensures keep { Lasts C.faults C.wants C.is_sure keep.old keep.new }
 {
-    match lead(task, first, second, peer, keep, gathered) {
+    match gather_all(task, first, second, peer, keep, gathered) {
         Ok(weights) => weights,
         Err(status) => {
             *gathered = Err(status);

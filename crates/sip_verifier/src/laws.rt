@@ -1,14 +1,16 @@
 //! Worked examples of the definitions: each holds by computation.
 #![tactic(auto, unfolding(sip_wire::specs::Spelling::spelling, sip_wire::specs::Spelling::in_bytes, sip_wire::specs::Spelling::spelled, sip_wire::specs::Transcript::ask_bytes))]
 
-ghost use Rattle.std.specs.Prelude.{◌≡◌, ◌+◌, ◌*◌, ◌++◌, [], ◌∷◌, codes, negsuc, pos, length, replicate};
+ghost use Rattle.std.specs.Prelude.{◌≡◌, ◌+◌, ◌*◌, ◌++◌, [], ◌∷◌, codes, negsuc, pos, length};
+ghost use Rattle.std.specs.Prelude.{replicate};
 ghost use Rattle.sip_subvec.specs.Examples.{reply_0, reply_1};
 ghost use Rattle.sip_vector.specs.declared.query.Query.TheVariants as queries;
 ghost use Rattle.sip_vector.specs.declared.update.Side.TheVariants as sides;
 ghost use Rattle.sip_vector.specs.Answers.{pairs, number};
 ghost use Rattle.sip_vector.specs.Examples.{stream};
 ghost use Rattle.sip_verifier.specs.Draws.{blocks};
-ghost use Rattle.sip_verifier.specs.Examples.{whole_talk, one_query, one_share, two_queries, share_head, transcript_head};
+ghost use Rattle.sip_verifier.specs.Examples.{whole_talk, one_query, one_share, two_queries};
+ghost use Rattle.sip_verifier.specs.Examples.{share_head, transcript_head};
 ghost use Rattle.sip_verifier.specs.Transcripts.{transcript_of};
 ghost use Rattle.sip_ports.specs.Ports.{heard};
 ghost use Rattle.sip_wire.specs.declared.message.Message.TheVariants as messages;
@@ -25,8 +27,8 @@ pub fn talk_of_one_query()
         (2 ∷ 10 ∷ []) (reply_0 One ∷ reply_1 ∷ []) ++ bye_sent One ≡ whole_talk }
 {}
 
-/// The transcript of that run is a head of 35 bytes, and the replies: 76 bytes in all. Where a share
-/// is asked for the head says version 2.
+/// The transcript of that run is a head of 35 bytes, and the replies: 76 bytes in all. Where a
+/// share is asked for the head says version 2.
 pub fn transcripts_of_one_query()
     ensures whole { transcript_of one_query (2 ∷ 10 ∷ []) (heard whole_talk)
         ≡ transcript_head ++ reply_0 One ++ reply_1 }

@@ -6,47 +6,49 @@
 //! | `Draws` | the challenges of a run, and the block of each query |
 //! | `Talks` | the order of bytes in a talk, around the queries |
 //! | `Reports` | the lines of a report |
-//! | `Moments` | what the ports tell at one moment, and how often they have failed |
+//! | `Snapshots` | what the ports tell at one instant, and how often they have failed |
 //! | `Exchanges` | what one call moved through its ports |
 //! | `Inquiries` | what is asked of a stream, and at which challenges |
 //! | `Kinds` | what is known of a query by its kind, one row a kind |
-//! | `runs` | what a run promises in any manner of asking: the clauses below, and what they speak of |
-//! | `Questions` | a query with its block and its reply bytes; when its replies are accepted, and their fault: the manner of the six kinds |
+//! | `runs` | what a run promises in any manner of asking: the clauses below |
+//! | `Questions` | a query with its block: when its reply bytes are accepted, and their fault |
 //! | `VerdictClause` | which lines are written, and when |
 //! | `TalkClause` | in which order the bytes go |
 //! | `CauseClause` | when each other answer comes |
-//! | `CountClause` | how many challenges a helper can win by, and that no line has a wrong answer but at those |
+//! | `CountClause` | at how many challenges a line can have a wrong answer |
 //! | `JointClause` | the same for all queries of a run together |
 //! | `CompletenessClause` | what an honest helper comes to |
-//! | `Statuses` | which statuses a run may answer, and which count of faults each needs to have risen |
+//! | `Statuses` | which statuses a run may answer, and which count of faults each needs |
 //! | `Promises`, `RunClause` | the seven clauses together, and all that a run keeps |
-//! | `QuerySeats`, `Seats`, `NextSeat` | which streams the running numbers stand for, and which of them is next |
+//! | `QuerySeats`, `Seats`, `NextSeat` | which streams running numbers stand for; the next seat |
 //! | `SeatNumbers` | the running number that a seat shows |
 //! | `Widths` | the first query whose answer may be too wide |
 //! | `Feeding` | what is still to send of a stream |
 //! | `Transcripts` | the head of a transcript |
 //! | `Gathering` | what a call did that reads the stream |
-//! | `Sittings`, `Asking`, `Given` | what is seen of a session, and what a call did that asks a query |
+//! | `Sittings`, `Asking`, `Given` | a session as it is seen; what a call did that asks a query |
 //! | `Concluding` | what a call did that asks all queries of a session |
+//! | `GatherClause` | all that a call keeps that gathers |
+//! | `AskClause` | all that a call keeps that asks a query |
+//! | `CheckClause` | all that a call keeps that asks queries and writes their lines |
 //!
 //! `specs/inside/` says what one private part of a run did. No promise rests on a reading of it.
 //!
 //! [`check_stream`] is a whole run: [`gather`], then a [`Session`] that asks the queries, by
-//! [`conclude`]. It carries the seven clauses, as one `RunClause`. All but the last two are said of
-//! an `Inquiry`: so [`follow`] and [`conclude`], over seats with challenges that are given
-//! ([`Seats::given`]), keep them for a run that is stored.
+//! [`conclude_session`]. It carries the seven clauses, as one `RunClause`. All but the last two are
+//! said of an `Inquiry`: so [`follow`] and [`conclude_session`], over seats with challenges that
+//! are given ([`Seats::given`]), keep them for a run that is stored.
 //!
 //! A caller that finds out its queries only while it talks has the roots and the extensions of the
 //! seats one by one ([`Seats::root`], [`Seats::point`]), and [`ask_sub`] asks for a sub-vector by
 //! such a root, with the contract of [`Session::ask`].
 //!
-//! [`conclude`] is [`conclude_run`] for a session. That serves whatever asks the questions of a run
-//! ([`Asker`]): its contract is said by the manner in which the asker asks, so a run of other
-//! questions has the same clauses by a type of its own.
+//! [`conclude_session`] is [`conclude_run`] for a session. That serves whatever asks the questions
+//! of a run ([`Asker`]): its contract is said by the manner in which the asker asks, so a run of
+//! other questions has the same clauses by a type of its own.
 #![tactic(auto)]
 
 mod asker;
-mod asking;
 mod checking;
 pub mod completeness;
 mod concluding;
@@ -59,6 +61,7 @@ mod points;
 mod queries;
 mod report;
 mod seat;
+mod seat_asking;
 mod seat_numbers;
 mod seats;
 mod session;
@@ -67,13 +70,13 @@ mod sub_vector;
 mod task;
 mod weights;
 
-pub use asker::{Asker, Unanswered};
-pub use checking::{check_stream, conclude, open};
+pub use asker::{Asker, Unanswered, has_failed};
+pub use checking::{check_stream, conclude_session, open_session};
 pub use concluding::conclude_run;
 pub use ending::{on_link, on_report, status_of_fault};
 pub use feed::Feed;
 pub use gathering::{draw, follow, gather, on_stream};
-pub use queries::Given;
+pub use queries::QueryGiven;
 pub use report::{query_word, write_dropped};
 pub use seats::Seats;
 pub use session::{Session, SessionFault, SessionStart, Verdict};

@@ -11,7 +11,7 @@ use sip_wire::{Message, encode};
 
 /// An answer that a session gave.
 #[derive(Clone, Copy, Debug)]
-pub struct Given {
+pub struct QueryGiven {
     /// The query that was answered.
     query: Query,
     /// The number that was stated; none where it was the pairs that the session shows.
@@ -27,7 +27,7 @@ impl Asker for Session {
     ghost use Rattle.sip_verifier.specs.QuerySeats.{StandsFor};
     ghost use Rattle.sip_verifier.specs.Sittings.{remaining_of};
 
-    type Given = Given;
+    type Given = QueryGiven;
 
     ghost Query = { AnyQuery };
 
@@ -51,14 +51,14 @@ impl Asker for Session {
         &mut self,
         link: &mut L,
         keep: &mut C,
-    ) -> Result<Given, Unanswered> {
+    ) -> Result<QueryGiven, Unanswered> {
         let query = self.next_query();
         match self.ask(link, keep) {
-            Ok(Verdict::Number(value)) => Ok(Given {
+            Ok(Verdict::Number(value)) => Ok(QueryGiven {
                 query,
                 number: Some(value),
             }),
-            Ok(Verdict::Pairs) => Ok(Given {
+            Ok(Verdict::Pairs) => Ok(QueryGiven {
                 query,
                 number: None,
             }),
@@ -67,7 +67,7 @@ impl Asker for Session {
         }
     }
 
-    fn write_line<K: Sink>(&self, given: &Given, report: &mut K) -> Result<(), PortStop> {
+    fn write_line<K: Sink>(&self, given: &QueryGiven, report: &mut K) -> Result<(), PortStop> {
         match given.number {
             Some(value) => write_number(report, &given.query, value),
             None => write_pairs(report, &given.query, self.entries()),

@@ -1,10 +1,12 @@
 //! The lines of a report.
 
-ghost use Rattle.std.specs.Prelude.{◌≡◌, ℕ, ◌+◌, ◌<◌, ◌≤◌, List, ◌++◌, ◌∷◌, [], length, take, codes, decimal, if◌then◌else◌, MatchResult, OnOk};
+ghost use Rattle.std.specs.Prelude.{◌≡◌, ℕ, ◌+◌, ◌<◌, ◌≤◌, List, ◌++◌, ◌∷◌, [], length, take};
+ghost use Rattle.std.specs.Prelude.{codes, decimal, if◌then◌else◌, MatchResult, OnOk};
 ghost use Rattle.arrayvec.specs.ArrayVec.{array_vec_len};
 ghost use Rattle.sip_ports.specs.Ports.{GoesOn, HasCause, SendsWhole, outs};
 ghost use Rattle.sip_vector.specs.Answers.{pairs, number};
-ghost use Rattle.sip_verifier.specs.Reports.{dropped, line, pair_text, parameter, query_word, reason_name, rejection, side_parameter};
+ghost use Rattle.sip_verifier.specs.Reports.{dropped, line, pair_text, parameter, query_word};
+ghost use Rattle.sip_verifier.specs.Reports.{reason_name, rejection, side_parameter};
 
 use arrayvec::ArrayVec;
 use itoa::Buffer;
@@ -13,11 +15,12 @@ use sip_stream::text::{put, put_number};
 use sip_vector::{Entry, Query, Side};
 use sip_wire::Reason;
 
-/// How many bytes of a line are gathered before they are written. Only a line of pairs may be longer, and is written in
-/// parts.
+/// How many bytes of a line are gathered before they are written. Only a line of pairs may be
+/// longer, and is written in parts.
 const ROOM: usize = 1024;
 
-/// The most bytes of a pair and the space before it: two numbers of at most 20 bytes, a colon, a space.
+/// The most bytes of a pair and the space before it: two numbers of at most 20 bytes, a colon, a
+/// space.
 const MOST_PAIR: usize = 42;
 
 // Adds a space and a pair.
@@ -134,8 +137,8 @@ pub(crate) fn write_number<K: Sink>(sink: &mut K, query: &Query, value: i64) -> 
     write_whole(sink, gathered.as_slice())
 }
 
-/// Writes the line of an accepted query that asks for entries: its word, and the entries as pairs `INDEX:VALUE`, or `none`. A
-/// long line is written in parts, without memory beyond a fixed buffer.
+/// Writes the line of an accepted query that asks for entries: its word, and the entries as pairs
+/// `INDEX:VALUE`, or `none`. A long line is written in parts, without memory beyond a fixed buffer.
 ///
 /// # Errors
 ///
@@ -207,8 +210,8 @@ fn rejection_line(query: u8, round: u8, reason: Reason) -> ArrayVec<u8, ROOM>
     gathered
 }
 
-/// Writes the line of a rejection, `rejected query K round J REASON`, in one piece and without memory beyond a fixed
-/// buffer. Queries are numbered from 1.
+/// Writes the line of a rejection, `rejected query K round J REASON`, in one piece and without
+/// memory beyond a fixed buffer. Queries are numbered from 1.
 ///
 /// # Errors
 ///
@@ -243,8 +246,8 @@ fn dropped_line(helper: u8, query: u8, round: u8, reason: Reason) -> ArrayVec<u8
     gathered
 }
 
-/// Writes the line of a helper that is dropped, `dropped helper I query K round J REASON`, in one piece and without memory beyond a
-/// fixed buffer. Helpers and queries are numbered from 1.
+/// Writes the line of a helper that is dropped, `dropped helper I query K round J REASON`, in one
+/// piece and without memory beyond a fixed buffer. Helpers and queries are numbered from 1.
 ///
 /// # Errors
 ///

@@ -1,6 +1,7 @@
 //! The seat of one query.
 
-ghost use Rattle.std.specs.Prelude.{◌≡◌, ◌*◌, ◌/◌, ◌<◌, ◌≤◌, ◌^◌, ℕ, List, [], ◌++◌, length, All, IsTrue, false, nat_abs};
+ghost use Rattle.std.specs.Prelude.{◌≡◌, ◌*◌, ◌/◌, ◌<◌, ◌≤◌, ◌^◌, ℕ, List, [], ◌++◌, length, All};
+ghost use Rattle.std.specs.Prelude.{IsTrue, false, nat_abs};
 ghost use Rattle.sip_vector.specs.declared.update.Update.{Update as AnyUpdate};
 ghost use Rattle.sip_vector.specs.declared.query.Query.{Query as AnyQuery};
 ghost use Rattle.sip_verifier.specs.QuerySeats.{HasRoom, StandsFor, concerns, is_seat, keeps};
@@ -98,7 +99,8 @@ fn concerns(query: &Query, side: Side) -> bool
     }
 }
 
-/// How many entries the answer for an interval may have: one for each item, or 65,536 if those are more.
+/// How many entries the answer for an interval may have: one for each item, or 65,536 if those are
+/// more.
 pub(crate) fn most_pairs(lo: u64, hi: u64) -> usize
     requires { lo ≤ hi }
     ensures { result ≡ most_answer lo hi }

@@ -2,7 +2,9 @@
 
 ghost use Rattle.std.specs.Prelude.{◌≡◌, is_some, length, IfSome, IsTrue, ℕ};
 ghost use Rattle.sip_verifier.specs.QuerySeats.{is_seat, point_is, root_is};
-ghost use Rattle.sip_verifier.specs.SeatNumbers.{IsPointAt, IsRootAt, KeepsOne, has_root, has_root_at, point_side, point_side_at, queries_of};
+ghost use Rattle.sip_verifier.specs.SeatNumbers.{IsPointAt, IsRootAt, KeepsOne, has_root};
+ghost use Rattle.sip_verifier.specs.SeatNumbers.{has_root_at, point_side, point_side_at};
+ghost use Rattle.sip_verifier.specs.SeatNumbers.{queries_of};
 
 use crate::Seats;
 use crate::seat::{QuerySeat, Running};

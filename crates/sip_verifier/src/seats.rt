@@ -1,6 +1,7 @@
 //! What a verifier keeps of a stream: for each query its challenges and one running number or two.
 
-ghost use Rattle.std.specs.Prelude.{◌≡◌, ℕ, ◌*◌, ◌<◌, ◌≤◌, ◌^◌, IsTrue, false, List, [], ◌∷◌, ◌++◌, length, map, take, All};
+ghost use Rattle.std.specs.Prelude.{◌≡◌, ℕ, ◌*◌, ◌<◌, ◌≤◌, ◌^◌, IsTrue, false, List, [], ◌∷◌, ◌++◌};
+ghost use Rattle.std.specs.Prelude.{length, map, take, All};
 ghost use Rattle.std.specs.List.{list_all, zip};
 ghost use Rattle.arrayvec.specs.ArrayVec.{array_vec_len};
 ghost use Rattle.sip_field.specs.Elements.{m61_number};
@@ -28,8 +29,9 @@ use std::marker::Model;
 /// How many challenges a run has at most: 16 queries at depth 48.
 const MOST_CHALLENGES: usize = MOST_QUERIES * CAP;
 
-/// The seats of a run: one for each query, in the order of the queries. Each has its own challenges and one running number or
-/// two, which stand for the stream so far. Beside these nothing of a stream is kept, and no call takes memory.
+/// The seats of a run: one for each query, in the order of the queries. Each has its own challenges
+/// and one running number or two, which stand for the stream so far. Beside these nothing of a
+/// stream is kept, and no call takes memory.
 #[derive(Drop)]
 pub struct Seats {
     depth: Depth,
@@ -53,7 +55,8 @@ impl Seats {
     ghost use Rattle.sip_verifier.specs.Seats.{AreDrawn, AreSeats};
     ghost use Rattle.sip_verifier.specs.Transcripts.{head_of};
 
-    /// The seats of the first `depth` challenges for each query that `ChaCha20Rng::from_seed(seed)` gives, before any update.
+    /// The seats of the first `depth` challenges for each query that `ChaCha20Rng::from_seed(seed)`
+    /// gives, before any update.
     ///
     /// # Errors
     ///
@@ -108,8 +111,8 @@ impl Seats {
 
     /// Adds an update to each running number that it concerns.
     ///
-    /// The sum that a seat for heavy hitters of the update's side keeps must stay within 2^30 - 1. At most `2 * depth + 1`
-    /// multiplications for each query; no memory.
+    /// The sum that a seat for heavy hitters of the update's side keeps must stay within 2^30 - 1.
+    /// At most `2 * depth + 1` multiplications for each query; no memory.
     pub fn update(&mut self, update: &Update)
         requires item { update.now.item < 2 ^ self.old.depth }
         requires room { HaveRoom self.old.seats (update.now ∷ []) update.now.side }
@@ -124,8 +127,9 @@ impl Seats {
 
     /// Adds a block of updates to each running number, those that concern it.
     ///
-    /// The block is split by side once. Then an update takes, for each query that it concerns, one look-up and one multiplication
-    /// for each seven levels; their tables are made once for a block, a side and a query, on the stack. No memory.
+    /// The block is split by side once. Then an update takes, for each query that it concerns, one
+    /// look-up and one multiplication for each seven levels; their tables are made once for a
+    /// block, a side and a query, on the stack. No memory.
     #[inline(never)]
     pub fn update_all(&mut self, updates: &[Update])
         requires most { length updates.now ≤ most_rows }
@@ -156,8 +160,8 @@ impl Seats {
         true
     }
 
-    // Adds the updates of one side to each running number, those that concern it. They are gathered in
-    // `taken`.
+    // Adds the updates of one side to each running number, those that concern it. They are gathered
+    // in `taken`.
     fn raise_side(&mut self, side: Side, updates: &[Update], taken: &mut [Update; MOST_ROWS])
         requires most { length updates.now ≤ most_rows }
         requires items { All (λ u. u.item < 2 ^ self.old.depth) updates.now }
@@ -196,7 +200,8 @@ impl Seats {
         }
     }
 
-    /// Writes the head of the run's transcript: the version, the depth, and each query with its challenges.
+    /// Writes the head of the run's transcript: the version, the depth, and each query with its
+    /// challenges.
     ///
     /// # Errors
     ///

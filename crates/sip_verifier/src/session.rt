@@ -1,26 +1,30 @@
 //! The queries of a run, asked one after another.
 
-ghost use Rattle.std.specs.Prelude.{◌≡◌, ◌≢◌, ◌⊎◌, ◌<◌, ◌≤◌, ◌^◌, All, ℕ, List, [], ◌∷◌, true, false, length, drop, vec_len, IsTrue, MatchResult, Ok, Err, is_err};
+ghost use Rattle.std.specs.Prelude.{◌≡◌, ◌≢◌, ◌⊎◌, ◌<◌, ◌≤◌, ◌^◌, All, ℕ, List, [], ◌∷◌, true};
+ghost use Rattle.std.specs.Prelude.{false, length, drop, vec_len, IsTrue, MatchResult, Ok, Err};
+ghost use Rattle.std.specs.Prelude.{is_err};
 ghost use Rattle.std.specs.List.{list_all};
-ghost use Rattle.sip_ports.specs.Ports.{Lasts, Rose};
+ghost use Rattle.sip_ports.specs.Ports.{Lasts};
 ghost use Rattle.sip_vector.specs.declared.query.Query.{Query as AnyQuery};
 ghost use Rattle.sip_vector.specs.declared.update.Update.{Update as AnyUpdate};
 ghost use Rattle.sip_vector.specs.Answers.{Fits};
 ghost use Rattle.sip_vector.specs.Streams.{IsLegal};
 ghost use Rattle.sip_wire.specs.Versions.{Speaks, deepest, speaks};
+ghost use Rattle.sip_verifier.specs.AskClause.{AskClause, came_of};
 ghost use Rattle.sip_verifier.specs.Asking.{AnswersCount, Asks};
-ghost use Rattle.sip_verifier.specs.Keeping.{KeepsReplies};
-ghost use Rattle.sip_verifier.specs.inside.Judging.{are_enough, lends_enough, most_nodes, most_places};
+ghost use Rattle.sip_verifier.specs.inside.Judging.{are_enough, lends_enough, most_nodes};
+ghost use Rattle.sip_verifier.specs.inside.Judging.{most_places};
 ghost use Rattle.sip_verifier.specs.NextSeat.{IsNext};
 ghost use Rattle.sip_verifier.specs.QuerySeats.{Seated, is_seat};
 ghost use Rattle.sip_verifier.specs.ReplyBound.{ReplyBound};
+ghost use Rattle.sip_verifier.specs.Snapshots.{sink};
 ghost use Rattle.sip_verifier.specs.Widths.{first_wide_seat};
 ghost use Rattle.sip_wire.specs.Table.{most_queries};
 ghost use Rattle.sip_verifier.specs.Sittings.{Starts};
 
 use crate::Seats;
-use crate::asking::{ask_seat, found_in, verdict_of};
 use crate::seat::QuerySeat;
+use crate::seat_asking::{ask_seat, found_in, verdict_of};
 use sip_heavy::HeavySpace;
 use sip_ports::{Link, Sink};
 use sip_vector::{Entry, Query};
@@ -44,7 +48,8 @@ pub enum Verdict {
     Number(i64),
     /// Its replies were accepted, and the pairs of [`Session::entries`] are the answer.
     Pairs,
-    /// Its replies have this first fault; `round` is the number of the reply, or the depth for the tests after the last one.
+    /// Its replies have this first fault; `round` is the number of the reply, or the depth for the
+    /// tests after the last one.
     Rejected { round: u8, reason: Reason },
 }
 
@@ -59,8 +64,8 @@ pub enum SessionFault {
     OutOfMemory,
 }
 
-/// The queries of a run after the stream was sent. All memory is taken when it is made: a frame, and room for the entries of the
-/// longest answer.
+/// The queries of a run after the stream was sent. All memory is taken when it is made: a frame,
+/// and room for the entries of the longest answer.
 #[derive(Drop)]
 pub struct Session {
     seats: Seats,
@@ -105,7 +110,8 @@ fn greater(one: usize, other: usize) -> usize
     if one < other { other } else { one }
 }
 
-/// How many places the longest answer of these seats needs, and how many nodes a level of the replies to one may have.
+/// How many places the longest answer of these seats needs, and how many nodes a level of the
+/// replies to one may have.
 fn rooms(seats: &[QuerySeat]) -> (usize, usize)
     requires each { (depth : ℕ) × IsTrue (list_all (is_seat depth) seats.now) }
     ensures places { IsTrue (are_enough most_places result.0 seats.now) }
@@ -135,15 +141,17 @@ fn first_wide(seats: &[QuerySeat]) -> Option<u8>
 }
 
 impl Session {
-    /// A session that asks the queries of these seats in order, in a version in which each can be asked.
+    /// A session that asks the queries of these seats in order, in a version in which each can be
+    /// asked.
     ///
-    /// Takes a frame of 8,709 bytes, and 16 bytes for each entry that the longest answer may have: at most 65,536 of a sub-vector,
-    /// and 2 * floor(n / T) where heavy hitters are asked for, which takes 64 bytes more for each. After that no call takes memory.
+    /// Takes a frame of 8,709 bytes, and 16 bytes for each entry that the longest answer may have:
+    /// at most 65,536 of a sub-vector, and 2 * floor(n / T) where heavy hitters are asked for,
+    /// which takes 64 bytes more for each. After that no call takes memory.
     ///
     /// # Errors
     ///
-    /// `TooWide` exactly for the first query for heavy hitters whose total n reaches its threshold T with more than 65,536 for
-    /// floor(n / T); else `OutOfMemory`. The seats are then dropped.
+    /// `TooWide` exactly for the first query for heavy hitters whose total n reaches its threshold
+    /// T with more than 65,536 for floor(n / T); else `OutOfMemory`. The seats are then dropped.
     #[inline(never)]
     pub fn new(alloc: Global, version: Version, seats: Seats) -> Result<Session, SessionStart>
         requires { All (λ s. Speaks version seats.depth s.query) seats.seats }
@@ -220,7 +228,8 @@ impl Session {
         self.seats.all().len() - self.asked
     }
 
-    /// The pairs of the last verdict, rising. There are none before the first, and none where it was no verdict of pairs.
+    /// The pairs of the last verdict, rising. There are none before the first, and none where it
+    /// was no verdict of pairs.
     pub fn entries(&self) -> &[Entry]
         ensures { result.now ≡ self.now.entries }
     {
@@ -246,15 +255,10 @@ impl Session {
         ensures depth { self.new.depth ≡ self.old.depth }
         ensures spent { self.new.spent ≡ is_err result }
         ensures cleared { result ≢ Ok Verdict.Pairs → self.new.entries ≡ [] }
-        ensures cause { result ≡ Err SessionFault.PeerFault
-            → Rose (L.faults link.old) (L.faults link.new) }
-        ensures memory { result ≡ Err SessionFault.OutOfMemory
-            → Rose (L.wants link.old) (L.wants link.new)
-            ⊎ Rose (C.wants keep.old) (C.wants keep.new) }
-        ensures kept { KeepsReplies (L.talk link.old) (L.talk link.new) (C.talk keep.old)
-            (C.talk keep.new) self.old.version result }
-        ensures keep_cause { result ≡ Err SessionFault.KeepFault
-            → Rose (C.faults keep.old) (C.faults keep.new) }
+        ensures keeps { AskClause self.old.version
+            (sink L.talk L.faults L.wants link.old) (sink L.talk L.faults L.wants link.new)
+            (sink C.talk C.faults C.wants keep.old) (sink C.talk C.faults C.wants keep.new)
+            (came_of result) }
         ensures link { Lasts L.faults L.wants L.is_sure link.old link.new }
         ensures keep { Lasts C.faults C.wants C.is_sure keep.old keep.new }
     {
@@ -278,17 +282,20 @@ impl Session {
 
     /// Asks the next query, takes the replies and judges them.
     ///
-    /// A challenge leaves only after the reply before it was taken and passed its tests, and the last challenge never leaves. No
-    /// byte is received behind the one that shows the verdict. Takes no memory; the time is linear in the replies. These have no
-    /// more bytes than `ReplyBound` says, whatever the other end sends and however it is cut.
+    /// A challenge leaves only after the reply before it was taken and passed its tests, and the
+    /// last challenge never leaves. No byte is received behind the one that shows the verdict.
+    /// Takes no memory; the time is linear in the replies. These have no more bytes than
+    /// `ReplyBound` says, whatever the other end sends and however it is cut.
     ///
-    /// `keep` gets each frame's bytes as soon as they came, before they are judged; of a frame that the link's failure cut, it gets none.
+    /// `keep` gets each frame's bytes as soon as they came, before they are judged; of a frame that
+    /// the link's failure cut, it gets none.
     ///
     /// # Errors
     ///
-    /// `PeerFault`: a reply is then missing or not whole, and those before it have no fault. `KeepFault`: what came of the last reply
-    /// was not judged. `OutOfMemory` is the one or the other. Each comes only where that port's own count of them rose. After an error
-    /// the session is spent; after a rejection the next query may be asked.
+    /// `PeerFault`: a reply is then missing or not whole, and those before it have no fault.
+    /// `KeepFault`: what came of the last reply was not judged. `OutOfMemory` is the one or the
+    /// other. Each comes only where that port's own count of them rose. After an error the session
+    /// is spent; after a rejection the next query may be asked.
     pub fn ask<L: Link, C: Sink>(
         &mut self,
         link: &mut L,
@@ -314,15 +321,10 @@ impl Session {
         ensures depth { self.new.depth ≡ self.old.depth }
         ensures spent { self.new.spent ≡ is_err result }
         ensures cleared { result ≢ Ok Verdict.Pairs → self.new.entries ≡ [] }
-        ensures cause { result ≡ Err SessionFault.PeerFault
-            → Rose (L.faults link.old) (L.faults link.new) }
-        ensures memory { result ≡ Err SessionFault.OutOfMemory
-            → Rose (L.wants link.old) (L.wants link.new)
-            ⊎ Rose (C.wants keep.old) (C.wants keep.new) }
-        ensures kept { KeepsReplies (L.talk link.old) (L.talk link.new) (C.talk keep.old)
-            (C.talk keep.new) self.old.version result }
-        ensures keep_cause { result ≡ Err SessionFault.KeepFault
-            → Rose (C.faults keep.old) (C.faults keep.new) }
+        ensures keeps { AskClause self.old.version
+            (sink L.talk L.faults L.wants link.old) (sink L.talk L.faults L.wants link.new)
+            (sink C.talk C.faults C.wants keep.old) (sink C.talk C.faults C.wants keep.new)
+            (came_of result) }
         ensures link { Lasts L.faults L.wants L.is_sure link.old link.new }
         ensures keep { Lasts C.faults C.wants C.is_sure keep.old keep.new }
     {

@@ -25,8 +25,8 @@ pub enum Status {
     Served,
     /// All was read to its end and written.
     Wrote,
-    /// The replies to this query have this first fault; `round` is the number of the reply, or the depth for the tests
-    /// after the last one.
+    /// The replies to this query have this first fault; `round` is the number of the reply, or the
+    /// depth for the tests after the last one.
     Rejected {
         query: u8,
         round: u8,
@@ -49,7 +49,8 @@ pub enum Status {
     BadTranscript {
         offset: u64,
     },
-    /// The frame at this byte has no spelling, is a query that the helper does not answer, or is out of turn.
+    /// The frame at this byte has no spelling, is a query that the helper does not answer, or is
+    /// out of turn.
     BadFrame {
         offset: u64,
     },

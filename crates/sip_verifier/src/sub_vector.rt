@@ -1,8 +1,9 @@
 //! A sub-vector that is asked for by itself, and not as a query of a session.
 
-ghost use Rattle.std.specs.Prelude.{◌≡◌, ◌≢◌, ◌⊎◌, ◌^◌, ◌<◌, ◌≤◌, ℕ, Ok, Err, List, [], length, vec_capacity};
+ghost use Rattle.std.specs.Prelude.{◌≡◌, ◌≢◌, ◌⊎◌, ◌^◌, ◌<◌, ◌≤◌, ℕ, Ok, Err, List, [], length};
+ghost use Rattle.std.specs.Prelude.{vec_capacity};
 ghost use Rattle.sip_field.specs.Moduli.{m61_modulus};
-ghost use Rattle.sip_ports.specs.Ports.{Lasts, Rose};
+ghost use Rattle.sip_ports.specs.Ports.{Lasts};
 ghost use Rattle.sip_subvec.specs.Asking.{most_answer};
 ghost use Rattle.sip_tree.specs.StandsFor.{RootStandsFor};
 ghost use Rattle.sip_vector.specs.declared.query.Query.TheVariants as queries;
@@ -10,12 +11,13 @@ ghost use Rattle.sip_vector.specs.declared.update.Side.TheVariants.{First};
 ghost use Rattle.sip_vector.specs.declared.update.Update.{Update as AnyUpdate};
 ghost use Rattle.sip_vector.specs.Streams.{IsLegal, vector};
 ghost use Rattle.sip_wire.specs.Versions.{deepest};
+ghost use Rattle.sip_verifier.specs.AskClause.{AskClause, came_of};
 ghost use Rattle.sip_verifier.specs.Asking.{AnswersCount, Asks};
-ghost use Rattle.sip_verifier.specs.Keeping.{KeepsReplies};
 ghost use Rattle.sip_verifier.specs.ReplyBound.{ReplyBound};
+ghost use Rattle.sip_verifier.specs.Snapshots.{sink};
 
-use crate::asking::{found_in, verdict_of};
 use crate::seat::most_pairs;
+use crate::seat_asking::{found_in, verdict_of};
 use crate::session::{SessionFault, Verdict};
 use sip_field::M61;
 use sip_ports::{Link, Sink};
@@ -69,15 +71,10 @@ pub fn ask_sub<L: Link, C: Sink>(
         (L.talk link.new) }
     ensures cleared { result ≢ Ok Verdict.Pairs → entries.new.items ≡ [] }
     ensures room { vec_capacity entries.old ≤ vec_capacity entries.new }
-    ensures cause { result ≡ Err SessionFault.PeerFault
-        → Rose (L.faults link.old) (L.faults link.new) }
-    ensures memory { result ≡ Err SessionFault.OutOfMemory
-        → Rose (L.wants link.old) (L.wants link.new)
-        ⊎ Rose (C.wants keep.old) (C.wants keep.new) }
-    ensures kept { KeepsReplies (L.talk link.old) (L.talk link.new) (C.talk keep.old)
-        (C.talk keep.new) version result }
-    ensures keep_cause { result ≡ Err SessionFault.KeepFault
-        → Rose (C.faults keep.old) (C.faults keep.new) }
+    ensures keeps { AskClause version
+        (sink L.talk L.faults L.wants link.old) (sink L.talk L.faults L.wants link.new)
+        (sink C.talk C.faults C.wants keep.old) (sink C.talk C.faults C.wants keep.new)
+        (came_of result) }
     ensures link { Lasts L.faults L.wants L.is_sure link.old link.new }
     ensures keep { Lasts C.faults C.wants C.is_sure keep.old keep.new }
 {

@@ -1,21 +1,24 @@
--- What reading a frame that is at hand answers, at each of its ends.
-use Rattle.std.proofs.Common.{◌≡◌, ℕ, ◌+◌, ◌-◌, ◌<◌, ◌≤◌, Some, Result, Ok, Err, List, length, drop, sym, ap, subst, ◌∙◌, arith}
+-- What reading a frame that is at hand answers, at each of its ends, and how many bytes are taken of
+-- a frame that comes in pieces.
+use Rattle.std.proofs.Common.{◌≡◌, ◌⊎◌, ℕ, ◌+◌, ◌-◌, ◌<◌, ◌≤◌, Some, Result, Ok, Err, List, ◌++◌, length, drop, inl, inr, refl, sym, ap, subst, ◌∙◌, arith, length-append}
 use Rattle.std.specs.Prelude.{IsTrue}
+use Rattle.std.proofs.lemmas.Bool.{cases_lt, le-ltb, lt-ltb}
 use Rattle.sip_wire.specs.declared.kind.Kind.{Kind}
 use Rattle.sip_wire.specs.declared.kind.Place.{Place}
 use Rattle.sip_wire.specs.declared.version.Version.{Version}
 use Rattle.sip_wire.specs.declared.message.Message.{Message}
 use Rattle.sip_wire.specs.declared.message.WireFault.{WireFault}
 use Rattle.sip_wire.specs.declared.message.WireFault.TheVariants as faults
-use Rattle.sip_wire.specs.Table.{shape}
+use Rattle.sip_wire.specs.Table.{longest_frame, shape}
 use Rattle.sip_wire.specs.Spelling.{body_fault, kind_fault, frame_fault, asked, ReadsBody}
 use Rattle.sip_wire.specs.Reading.{read_frame}
 use Rattle.sip_wire.specs.Decoding.{IsBytes, Head}
 use Rattle.sip_wire.specs.AtHand.{Reads}
+use Rattle.sip_wire.specs.Taking.{ShowsFault, room_for}
 use Rattle.sip_wire.proofs.Answering.{whole_spelling}
 use Rattle.sip_wire.specs.Faults.{IsOfBytes}
 use Rattle.sip_wire.proofs.Whole.{past_length, past_head, of_body, spelled_back, asked_whole}
-use Rattle.sip_wire.proofs.ReadingLaws.{asked-least, read_frame-closed, read_frame-fault}
+use Rattle.sip_wire.proofs.ReadingLaws.{asked-append, asked-least, asked-most, read_frame-closed, read_frame-fault}
 
 -- a head asks for itself and its body
 pub asked_of : (version : Version) (place : Place) (bytes : List ℕ) (kind : Kind) (len : ℕ) → Head version place bytes kind len → asked version place bytes ≡ 3 + len
@@ -51,6 +54,12 @@ read_whole version place bytes kind len (Ok m) three is all fit read =
 read_whole version place bytes kind len (Err f) three is all fit read =
     read_frame-fault version place bytes f (fault_of version place bytes kind len three is all ∙ read) (omega (arith, all, asked_of version place bytes kind len is))
 
+-- a whole frame that is no message shows the fault of its body
+pub body_shows : (version : Version) (place : Place) (bytes : List ℕ) (kind : Kind) (len : ℕ) (f : WireFault) → 3 ≤ length bytes → Head version place bytes kind len → length bytes ≡ 3 + len → IsBytes bytes
+    → ReadsBody version kind (drop 3 bytes) (Err f) → ShowsFault version place bytes f
+body_shows version place bytes kind len f three is all fit read =
+    record { shown = of_body (shape version kind) (drop 3 bytes) f read; read = read_whole version place bytes kind len (Err f) three is all fit read }
+
 -- fewer than three bytes are fewer than a frame has
 pub under_head : (version : Version) (place : Place) (bytes : List ℕ) → length bytes < 3 → length bytes < asked version place bytes
 under_head version place bytes less = omega (arith, less, asked-least version place bytes)
@@ -62,3 +71,38 @@ under_body version place bytes kind len is less = omega (arith, less, asked_of v
 -- a body never has the fault of a frame that isn't whole
 pub never_closed : (version : Version) (kind : Kind) (body : List ℕ) (f : WireFault) → body_fault (shape version kind) body ≡ Some f → f ≡ faults.Closed → ⊥
 never_closed version kind body f read e = subst IsOfBytes e (of_body (shape version kind) body f read)
+
+-- ---- bytes that are put behind each other
+
+-- fewer than three bytes take what is missing of three
+pub room_in_head : (version : Version) (place : Place) (bytes : List ℕ) (n : ℕ) → length bytes < 3 → n ≡ 3 - length bytes → n ≡ room_for version place bytes
+room_in_head version place bytes n less is = is ∙ rw (lt-ltb (length bytes) 3 less) refl
+
+-- three bytes or more take what is missing of the frame
+pub room_in_body : (version : Version) (place : Place) (bytes : List ℕ) (n : ℕ) → 3 ≤ length bytes → n ≡ asked version place bytes - length bytes → n ≡ room_for version place bytes
+room_in_body version place bytes n three is = is ∙ rw (le-ltb (length bytes) 3 three) refl
+
+-- what is taken, by how much is there
+taken_by : (version : Version) (place : Place) (bytes : List ℕ) (n : ℕ) → n ≤ room_for version place bytes
+    → ((length bytes < 3) × (n ≤ 3 - length bytes)) ⊎ ((3 ≤ length bytes) × (n ≤ asked version place bytes - length bytes))
+taken_by version place bytes n le =
+    elim (cases_lt (length bytes) 3) [
+      | inl less ↦ inl (less, rw (room_in_head version place bytes (3 - length bytes) less refl) le)
+      | inr three ↦ inr (three, rw (room_in_body version place bytes (asked version place bytes - length bytes) three refl) le)
+    ]
+
+-- the longest frame has room for what is taken
+pub room_fits : (version : Version) (place : Place) (bytes : List ℕ) (n : ℕ) → length bytes ≤ longest_frame → n ≤ room_for version place bytes → length bytes + n ≤ longest_frame
+room_fits version place bytes n most le =
+    elim (taken_by version place bytes n le) [
+      | inl head ↦ omega (arith, head.0, head.1)
+      | inr body ↦ omega (arith, body.0, body.1, most, asked-most version place bytes)
+    ]
+
+-- no more is taken than the frame has
+pub put_within : (version : Version) (place : Place) (bytes more : List ℕ) → length more ≤ room_for version place bytes → length bytes ≤ asked version place bytes → length (bytes ++ more) ≤ asked version place (bytes ++ more)
+put_within version place bytes more le within =
+    elim (taken_by version place bytes (length more) le) [
+      | inl head ↦ omega (arith, head.0, head.1, length-append bytes more, asked-least version place (bytes ++ more))
+      | inr body ↦ omega (arith, body.0, body.1, within, length-append bytes more, asked-append version place bytes more body.0)
+    ]

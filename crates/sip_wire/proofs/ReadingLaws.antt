@@ -1,6 +1,6 @@
 -- What reading the message at the front of bytes answers: at a spelling, at a fault, and where the
 -- frame isn't whole.
-use Rattle.std.proofs.Common.{◌≡◌, ◌≢◌, ℕ, ◌+◌, ◌<◌, ◌≤◌, Bool, true, false, ◌&&◌, cond, Option, Some, None, Result, Ok, Err, List, [], ◌∷◌, ◌++◌, length, take, drop, refl, sym, ap, ◌∙◌, arith, inl, inr, length-append, length-drop, take_all, take_at, drop_at}
+use Rattle.std.proofs.Common.{◌≡◌, ◌≢◌, ℕ, ◌+◌, ◌<◌, ◌≤◌, Bool, true, false, ◌&&◌, cond, Option, Some, None, Result, Ok, Err, List, [], ◌∷◌, ◌++◌, length, take, drop, refl, sym, ap, ◌∙◌, arith, inl, inr, lit≤, length-append, length-drop, take_all, take_at, drop_at}
 use Rattle.std.specs.Prelude.{IsTrue, slice_index}
 use Rattle.std.proofs.lemmas.Bool.{cases_lt}
 use Rattle.std.proofs.lemmas.List.{take-append-le, drop-append-le}
@@ -10,7 +10,7 @@ use Rattle.sip_wire.specs.declared.message.Message.{Message}
 use Rattle.sip_wire.specs.declared.message.WireFault.{WireFault}
 use Rattle.sip_wire.specs.declared.message.WireFault.TheVariants as faults
 use Rattle.sip_wire.specs.declared.version.Version.{Version}
-use Rattle.sip_wire.specs.Table.{shape, allows, kind_at}
+use Rattle.sip_wire.specs.Table.{longest_frame, shape, allows, kind_at}
 use Rattle.sip_wire.specs.Spelling.{in_bytes, kind_of, mark_of, numbers, fits, body_of, spelling, length_in, said_in, kind_fault, frame_fault, asked, asked_by}
 use Rattle.sip_wire.specs.Values.{InRange, message_from}
 use Rattle.sip_wire.specs.Reading.{said_by, read_of, read_frame}
@@ -34,6 +34,21 @@ asked_by-least version place (Some kind) bytes = by_test (allows place kind && (
 pub asked-least : (version : Version) (place : Place) (bytes : List ℕ) → 3 ≤ asked version place bytes
 unfolding asked
 asked-least version place bytes = asked_by-least version place (kind_at place (slice_index bytes 0)) bytes
+
+-- the same, by the kind
+asked_by-most : (version : Version) (place : Place) (kind : Option Kind) (bytes : List ℕ) → asked_by version place kind bytes ≤ longest_frame
+asked_by-most version place None bytes = lit≤ tt
+asked_by-most version place (Some kind) bytes = by_test (allows place kind) ((shape version kind).has_length (length_in bytes)) refl
+  where
+    by_test : (a b : Bool) → (shape version kind).has_length (length_in bytes) ≡ b → cond (a && b) (3 + length_in bytes) 3 ≤ longest_frame
+    by_test true true e = let short = (is_shape version kind).short (length_in bytes) e in omega arith
+    by_test true false e = lit≤ tt
+    by_test false b e = lit≤ tt
+
+-- and no more than the longest one
+pub asked-most : (version : Version) (place : Place) (bytes : List ℕ) → asked version place bytes ≤ longest_frame
+unfolding asked
+asked-most version place bytes = asked_by-most version place (kind_at place (slice_index bytes 0)) bytes
 
 -- kind, length and body
 pub length-spelling : (version : Version) (m : Message) → length (spelling version m) ≡ 3 + length (body_of version m)

@@ -96,9 +96,12 @@ heavy_replies =
 -- a lookup: what is asked, what is found, and the end
 abbrev pub look_frames : List Example
 look_frames =
-    example places.AskedLook (messages.AskLook 3 1) (0x21 ∷ 0 ∷ 9 ∷ 3 ∷ 0 ∷ 0 ∷ 0 ∷ 0 ∷ 0 ∷ 0 ∷ 0 ∷ 1 ∷ [])
-    ∷ example places.Found (messages.Found 1 2) (0x22 ∷ 0 ∷ 9 ∷ 1 ∷ 0 ∷ 0 ∷ 0 ∷ 0 ∷ 0 ∷ 0 ∷ 0 ∷ 2 ∷ [])
-    ∷ example places.Found (messages.Found 0 0) (0x22 ∷ 0 ∷ 9 ∷ 0 ∷ 0 ∷ 0 ∷ 0 ∷ 0 ∷ 0 ∷ 0 ∷ 0 ∷ 0 ∷ [])
+    example places.AskedLook (messages.AskLook 3 1)
+    (0x21 ∷ 0 ∷ 9 ∷ 3 ∷ 0 ∷ 0 ∷ 0 ∷ 0 ∷ 0 ∷ 0 ∷ 0 ∷ 1 ∷ [])
+    ∷ example places.Found (messages.Found 1 2)
+    (0x22 ∷ 0 ∷ 9 ∷ 1 ∷ 0 ∷ 0 ∷ 0 ∷ 0 ∷ 0 ∷ 0 ∷ 0 ∷ 2 ∷ [])
+    ∷ example places.Found (messages.Found 0 0)
+    (0x22 ∷ 0 ∷ 9 ∷ 0 ∷ 0 ∷ 0 ∷ 0 ∷ 0 ∷ 0 ∷ 0 ∷ 0 ∷ 0 ∷ [])
     ∷ example places.Found (messages.Refuse 1) (0x18 ∷ 0 ∷ 1 ∷ 1 ∷ [])
     ∷ example places.AskedLook messages.End (0x23 ∷ 0 ∷ 0 ∷ [])
     ∷ []
@@ -107,11 +110,20 @@ look_frames =
 abbrev pub power_frames : List Example
 power_frames =
     example places.AskedMoment (messages.AskMoment 0 3) (0x24 ∷ 0 ∷ 2 ∷ 0 ∷ 3 ∷ [])
-    ∷ example places.Claim (messages.Claim (pos 153)) (0x11 ∷ 0 ∷ 8 ∷ 0 ∷ 0 ∷ 0 ∷ 0 ∷ 0 ∷ 0 ∷ 0 ∷ 0x99 ∷ [])
-    ∷ example (places.Power 3) (messages.Power (record { items = 152 ∷ 2305843009213693570 ∷ 321 ∷ 2305843009213693860 ∷ [] }))
-    (0x25 ∷ 0 ∷ 0x20 ∷ 0 ∷ 0 ∷ 0 ∷ 0 ∷ 0 ∷ 0 ∷ 0 ∷ 0x98 ∷ 0x1f ∷ 0xff ∷ 0xff ∷ 0xff ∷ 0xff ∷ 0xff ∷ 0xfe ∷ 0x82 ∷ 0 ∷ 0 ∷ 0 ∷ 0 ∷ 0 ∷ 0 ∷ 1 ∷ 0x41 ∷ 0x1f ∷ 0xff ∷ 0xff ∷ 0xff ∷ 0xff ∷ 0xff ∷ 0xff ∷ 0xa4 ∷ [])
-    ∷ example (places.Power 3) (messages.Power (record { items = 2305843009213693924 ∷ 0 ∷ 0 ∷ 0 ∷ [] }))
-    (0x25 ∷ 0 ∷ 0x20 ∷ 0x1f ∷ 0xff ∷ 0xff ∷ 0xff ∷ 0xff ∷ 0xff ∷ 0xff ∷ 0xe4 ∷ 0 ∷ 0 ∷ 0 ∷ 0 ∷ 0 ∷ 0 ∷ 0 ∷ 0 ∷ 0 ∷ 0 ∷ 0 ∷ 0 ∷ 0 ∷ 0 ∷ 0 ∷ 0 ∷ 0 ∷ 0 ∷ 0 ∷ 0 ∷ 0 ∷ 0 ∷ 0 ∷ 0 ∷ [])
+    ∷ example places.Claim (messages.Claim (pos 153))
+    (0x11 ∷ 0 ∷ 8 ∷ 0 ∷ 0 ∷ 0 ∷ 0 ∷ 0 ∷ 0 ∷ 0 ∷ 0x99 ∷ [])
+    ∷ example (places.Power 3)
+    (messages.Power (record {
+      items =
+          152 ∷ 2305843009213693570 ∷ 321 ∷ 2305843009213693860 ∷ [];
+    }))
+    (0x25 ∷ 0 ∷ 0x20 ∷ 0 ∷ 0 ∷ 0 ∷ 0 ∷ 0 ∷ 0 ∷ 0 ∷ 0x98 ∷ 0x1f ∷ 0xff ∷ 0xff ∷ 0xff ∷ 0xff ∷ 0xff
+    ∷ 0xfe ∷ 0x82 ∷ 0 ∷ 0 ∷ 0 ∷ 0 ∷ 0 ∷ 0 ∷ 1 ∷ 0x41 ∷ 0x1f ∷ 0xff ∷ 0xff ∷ 0xff ∷ 0xff ∷ 0xff
+    ∷ 0xff ∷ 0xa4 ∷ [])
+    ∷ example (places.Power 3)
+    (messages.Power (record { items = 2305843009213693924 ∷ 0 ∷ 0 ∷ 0 ∷ [] }))
+    (0x25 ∷ 0 ∷ 0x20 ∷ 0x1f ∷ 0xff ∷ 0xff ∷ 0xff ∷ 0xff ∷ 0xff ∷ 0xff ∷ 0xe4 ∷ 0 ∷ 0 ∷ 0 ∷ 0 ∷ 0 ∷ 0
+    ∷ 0 ∷ 0 ∷ 0 ∷ 0 ∷ 0 ∷ 0 ∷ 0 ∷ 0 ∷ 0 ∷ 0 ∷ 0 ∷ 0 ∷ 0 ∷ 0 ∷ 0 ∷ 0 ∷ 0 ∷ 0 ∷ [])
     ∷ example (places.Power 3) (messages.Refuse 1) (0x18 ∷ 0 ∷ 1 ∷ 1 ∷ [])
     ∷ example places.AskedMoment messages.End (0x23 ∷ 0 ∷ 0 ∷ [])
     ∷ []
@@ -129,7 +141,8 @@ recall_frames =
       second = 0;
       fingerprint = 0xb8261ae7db4fab00;
     }))
-    (0x26 ∷ 0 ∷ 0x20 ∷ 0 ∷ 0 ∷ 0 ∷ 0 ∷ 0 ∷ 0 ∷ 0 ∷ 3 ∷ 0 ∷ 0 ∷ 0 ∷ 0 ∷ 0 ∷ 0 ∷ 0 ∷ 9 ∷ 0 ∷ 0 ∷ 0 ∷ 0 ∷ 0 ∷ 0 ∷ 0 ∷ 0 ∷ 0xb8 ∷ 0x26 ∷ 0x1a ∷ 0xe7 ∷ 0xdb ∷ 0x4f ∷ 0xab ∷ 0 ∷ [])
+    (0x26 ∷ 0 ∷ 0x20 ∷ 0 ∷ 0 ∷ 0 ∷ 0 ∷ 0 ∷ 0 ∷ 0 ∷ 3 ∷ 0 ∷ 0 ∷ 0 ∷ 0 ∷ 0 ∷ 0 ∷ 0 ∷ 9 ∷ 0 ∷ 0 ∷ 0 ∷ 0
+    ∷ 0 ∷ 0 ∷ 0 ∷ 0 ∷ 0xb8 ∷ 0x26 ∷ 0x1a ∷ 0xe7 ∷ 0xdb ∷ 0x4f ∷ 0xab ∷ 0 ∷ [])
     ∷ example places.AskedQuestion (messages.AskLook 3 1)
     (0x21 ∷ 0 ∷ 9 ∷ 3 ∷ 0 ∷ 0 ∷ 0 ∷ 0 ∷ 0 ∷ 0 ∷ 0 ∷ 1 ∷ [])
     ∷ example places.AskedQuestion (messages.AskMoment 0 3) (0x24 ∷ 0 ∷ 2 ∷ 0 ∷ 3 ∷ [])
@@ -148,7 +161,8 @@ above_frames =
     ∷ example places.Marks
     (messages.Marks
     (record { items = record { item = 2; value = negsuc 8; weight = 9 } ∷ [] }))
-    (0x28 ∷ 0 ∷ 0x1a ∷ 0 ∷ 1 ∷ 0 ∷ 0 ∷ 0 ∷ 0 ∷ 0 ∷ 0 ∷ 0 ∷ 2 ∷ 0xff ∷ 0xff ∷ 0xff ∷ 0xff ∷ 0xff ∷ 0xff ∷ 0xff ∷ 0xf7 ∷ 0 ∷ 0 ∷ 0 ∷ 0 ∷ 0 ∷ 0 ∷ 0 ∷ 9 ∷ [])
+    (0x28 ∷ 0 ∷ 0x1a ∷ 0 ∷ 1 ∷ 0 ∷ 0 ∷ 0 ∷ 0 ∷ 0 ∷ 0 ∷ 0 ∷ 2 ∷ 0xff ∷ 0xff ∷ 0xff ∷ 0xff ∷ 0xff
+    ∷ 0xff ∷ 0xff ∷ 0xf7 ∷ 0 ∷ 0 ∷ 0 ∷ 0 ∷ 0 ∷ 0 ∷ 0 ∷ 9 ∷ [])
     ∷ example places.Marks messages.LevelEnd (0x17 ∷ 0 ∷ 0 ∷ [])
     ∷ example places.Marks (messages.Refuse 2) (0x18 ∷ 0 ∷ 1 ∷ 2 ∷ [])
     ∷ []
@@ -199,7 +213,9 @@ power_faults = faulty (places.Power 3) (0x25 ∷ 0 ∷ []) faults.Closed
     ∷ faulty (places.Power 3) (0x25 ∷ 0 ∷ 0x28 ∷ []) faults.BadLength
     ∷ faulty (places.Power 9) (0x25 ∷ 0 ∷ 0x50 ∷ []) faults.BadLength
     ∷ faulty (places.Power 3)
-    (0x25 ∷ 0 ∷ 0x20 ∷ 0 ∷ 0 ∷ 0 ∷ 0 ∷ 0 ∷ 0 ∷ 0 ∷ 0x98 ∷ 0x1f ∷ 0xff ∷ 0xff ∷ 0xff ∷ 0xff ∷ 0xff ∷ 0xfe ∷ 0x82 ∷ 0 ∷ 0 ∷ 0 ∷ 0 ∷ 0 ∷ 0 ∷ 1 ∷ 0x41 ∷ 0x1f ∷ 0xff ∷ 0xff ∷ 0xff ∷ 0xff ∷ 0xff ∷ 0xff ∷ 0xff ∷ []) faults.BadNumber
+    (0x25 ∷ 0 ∷ 0x20 ∷ 0 ∷ 0 ∷ 0 ∷ 0 ∷ 0 ∷ 0 ∷ 0 ∷ 0x98 ∷ 0x1f ∷ 0xff ∷ 0xff ∷ 0xff ∷ 0xff ∷ 0xff
+    ∷ 0xfe ∷ 0x82 ∷ 0 ∷ 0 ∷ 0 ∷ 0 ∷ 0 ∷ 0 ∷ 1 ∷ 0x41 ∷ 0x1f ∷ 0xff ∷ 0xff ∷ 0xff ∷ 0xff ∷ 0xff
+    ∷ 0xff ∷ 0xff ∷ []) faults.BadNumber
     ∷ faulty (places.Power 3) (0x18 ∷ 0 ∷ 1 ∷ 5 ∷ []) faults.BadNumber
     ∷ []
 
@@ -223,7 +239,9 @@ stray_frames = faulty places.AskedLook (0x24 ∷ 0 ∷ 2 ∷ []) faults.BadKind
 -- each fault where what a helper holds is awaited, and where it is asked
 abbrev pub held_faults : List Faulty
 held_faults = faulty places.Held (0x26 ∷ 0 ∷ 0x20 ∷ []) faults.Closed
-    ∷ faulty places.Held (0x26 ∷ 0 ∷ 0x20 ∷ 0 ∷ 0 ∷ 0 ∷ 0 ∷ 0 ∷ 0 ∷ 0 ∷ 3 ∷ 0 ∷ 0 ∷ 0 ∷ 0 ∷ 0 ∷ 0 ∷ 0 ∷ 9 ∷ 0 ∷ 0 ∷ 0 ∷ 0 ∷ 0 ∷ 0 ∷ 0 ∷ 0 ∷ 0xb8 ∷ 0x26 ∷ 0x1a ∷ 0xe7 ∷ 0xdb ∷ 0x4f ∷ 0xab ∷ []) faults.Closed
+    ∷ faulty places.Held (0x26 ∷ 0 ∷ 0x20 ∷ 0 ∷ 0 ∷ 0 ∷ 0 ∷ 0 ∷ 0 ∷ 0 ∷ 3 ∷ 0 ∷ 0 ∷ 0 ∷ 0 ∷ 0 ∷ 0
+    ∷ 0 ∷ 9 ∷ 0 ∷ 0 ∷ 0 ∷ 0 ∷ 0 ∷ 0 ∷ 0 ∷ 0 ∷ 0xb8 ∷ 0x26 ∷ 0x1a ∷ 0xe7 ∷ 0xdb ∷ 0x4f ∷ 0xab ∷ [])
+    faults.Closed
     ∷ faulty places.Held (0x18 ∷ 0 ∷ 1 ∷ 1 ∷ []) faults.BadKind
     ∷ faulty places.Held (0x27 ∷ 0 ∷ 8 ∷ 0 ∷ 0 ∷ 0 ∷ 0 ∷ 0 ∷ 0 ∷ 0 ∷ 3 ∷ []) faults.BadKind
     ∷ faulty places.Held (0x26 ∷ 0 ∷ 0x1f ∷ []) faults.BadLength
@@ -240,28 +258,43 @@ held_faults = faulty places.Held (0x26 ∷ 0 ∷ 0x20 ∷ []) faults.Closed
     ∷ faulty places.AskedMoment (0x27 ∷ 0 ∷ 8 ∷ []) faults.BadKind
     ∷ []
 
--- each fault where marks are awaited: of none, of 257, of another count, above the bound of a value,
--- above their weight, or of a weight that is no element
+-- each fault where marks are awaited: of none, of 257, of another count, above the bound of a
+-- value, above their weight, or of a weight that is no element
 abbrev pub mark_faults : List Faulty
 mark_faults = faulty places.Marks (0x28 ∷ 0 ∷ 0x1a ∷ []) faults.Closed
     ∷ faulty places.Marks (0x16 ∷ 0 ∷ 0x1a ∷ []) faults.BadKind
     ∷ faulty places.Marks (0x28 ∷ 0 ∷ 2 ∷ []) faults.BadLength
     ∷ faulty places.Marks (0x28 ∷ 0 ∷ 0x19 ∷ []) faults.BadLength
     ∷ faulty places.Marks (0x28 ∷ 0x18 ∷ 0x1a ∷ []) faults.BadLength
-    ∷ faulty places.Marks (0x28 ∷ 0 ∷ 0x1a ∷ 0 ∷ 0 ∷ 0 ∷ 0 ∷ 0 ∷ 0 ∷ 0 ∷ 0 ∷ 0 ∷ 2 ∷ 0xff ∷ 0xff ∷ 0xff ∷ 0xff ∷ 0xff ∷ 0xff ∷ 0xff ∷ 0xf7 ∷ 0 ∷ 0 ∷ 0 ∷ 0 ∷ 0 ∷ 0 ∷ 0 ∷ 9 ∷ []) faults.BadCount
-    ∷ faulty places.Marks (0x28 ∷ 0 ∷ 0x1a ∷ 0 ∷ 2 ∷ 0 ∷ 0 ∷ 0 ∷ 0 ∷ 0 ∷ 0 ∷ 0 ∷ 2 ∷ 0xff ∷ 0xff ∷ 0xff ∷ 0xff ∷ 0xff ∷ 0xff ∷ 0xff ∷ 0xf7 ∷ 0 ∷ 0 ∷ 0 ∷ 0 ∷ 0 ∷ 0 ∷ 0 ∷ 9 ∷ []) faults.BadCount
-    ∷ faulty places.Marks (0x28 ∷ 0 ∷ 0x1a ∷ 0 ∷ 1 ∷ 0 ∷ 0 ∷ 0 ∷ 0 ∷ 0 ∷ 0 ∷ 0 ∷ 2 ∷ 0x10 ∷ 0 ∷ 0 ∷ 0 ∷ 0 ∷ 0 ∷ 0 ∷ 0 ∷ 0x10 ∷ 0 ∷ 0 ∷ 0 ∷ 0 ∷ 0 ∷ 0 ∷ 0 ∷ []) faults.BadNumber
-    ∷ faulty places.Marks (0x28 ∷ 0 ∷ 0x1a ∷ 0 ∷ 1 ∷ 0 ∷ 0 ∷ 0 ∷ 0 ∷ 0 ∷ 0 ∷ 0 ∷ 2 ∷ 0xff ∷ 0xff ∷ 0xff ∷ 0xff ∷ 0xff ∷ 0xff ∷ 0xff ∷ 0xf7 ∷ 0 ∷ 0 ∷ 0 ∷ 0 ∷ 0 ∷ 0 ∷ 0 ∷ 8 ∷ []) faults.BadNumber
-    ∷ faulty places.Marks (0x28 ∷ 0 ∷ 0x32 ∷ 0 ∷ 2 ∷ 0 ∷ 0 ∷ 0 ∷ 0 ∷ 0 ∷ 0 ∷ 0 ∷ 2 ∷ 0 ∷ 0 ∷ 0 ∷ 0 ∷ 0 ∷ 0 ∷ 0 ∷ 9 ∷ 0 ∷ 0 ∷ 0 ∷ 0 ∷ 0 ∷ 0 ∷ 0 ∷ 9 ∷ 0 ∷ 0 ∷ 0 ∷ 0 ∷ 0 ∷ 0 ∷ 0 ∷ 3 ∷ 0 ∷ 0 ∷ 0 ∷ 0 ∷ 0 ∷ 0 ∷ 0 ∷ 9 ∷ 0 ∷ 0 ∷ 0 ∷ 0 ∷ 0 ∷ 0 ∷ 0 ∷ 8 ∷ []) faults.BadNumber
-    ∷ faulty places.Marks (0x28 ∷ 0 ∷ 0x1a ∷ 0 ∷ 1 ∷ 0 ∷ 0 ∷ 0 ∷ 0 ∷ 0 ∷ 0 ∷ 0 ∷ 2 ∷ 0xff ∷ 0xff ∷ 0xff ∷ 0xff ∷ 0xff ∷ 0xff ∷ 0xff ∷ 0xf7 ∷ 0x1f ∷ 0xff ∷ 0xff ∷ 0xff ∷ 0xff ∷ 0xff ∷ 0xff ∷ 0xff ∷ []) faults.BadNumber
+    ∷ faulty places.Marks (0x28 ∷ 0 ∷ 0x1a ∷ 0 ∷ 0 ∷ 0 ∷ 0 ∷ 0 ∷ 0 ∷ 0 ∷ 0 ∷ 0 ∷ 2 ∷ 0xff ∷ 0xff
+    ∷ 0xff ∷ 0xff ∷ 0xff ∷ 0xff ∷ 0xff ∷ 0xf7 ∷ 0 ∷ 0 ∷ 0 ∷ 0 ∷ 0 ∷ 0 ∷ 0 ∷ 9 ∷ [])
+    faults.BadCount
+    ∷ faulty places.Marks (0x28 ∷ 0 ∷ 0x1a ∷ 0 ∷ 2 ∷ 0 ∷ 0 ∷ 0 ∷ 0 ∷ 0 ∷ 0 ∷ 0 ∷ 2 ∷ 0xff ∷ 0xff
+    ∷ 0xff ∷ 0xff ∷ 0xff ∷ 0xff ∷ 0xff ∷ 0xf7 ∷ 0 ∷ 0 ∷ 0 ∷ 0 ∷ 0 ∷ 0 ∷ 0 ∷ 9 ∷ [])
+    faults.BadCount
+    ∷ faulty places.Marks (0x28 ∷ 0 ∷ 0x1a ∷ 0 ∷ 1 ∷ 0 ∷ 0 ∷ 0 ∷ 0 ∷ 0 ∷ 0 ∷ 0 ∷ 2 ∷ 0x10 ∷ 0 ∷ 0
+    ∷ 0 ∷ 0 ∷ 0 ∷ 0 ∷ 0 ∷ 0x10 ∷ 0 ∷ 0 ∷ 0 ∷ 0 ∷ 0 ∷ 0 ∷ 0 ∷ []) faults.BadNumber
+    ∷ faulty places.Marks (0x28 ∷ 0 ∷ 0x1a ∷ 0 ∷ 1 ∷ 0 ∷ 0 ∷ 0 ∷ 0 ∷ 0 ∷ 0 ∷ 0 ∷ 2 ∷ 0xff ∷ 0xff
+    ∷ 0xff ∷ 0xff ∷ 0xff ∷ 0xff ∷ 0xff ∷ 0xf7 ∷ 0 ∷ 0 ∷ 0 ∷ 0 ∷ 0 ∷ 0 ∷ 0 ∷ 8 ∷ [])
+    faults.BadNumber
+    ∷ faulty places.Marks (0x28 ∷ 0 ∷ 0x32 ∷ 0 ∷ 2 ∷ 0 ∷ 0 ∷ 0 ∷ 0 ∷ 0 ∷ 0 ∷ 0 ∷ 2 ∷ 0 ∷ 0 ∷ 0 ∷ 0
+    ∷ 0 ∷ 0 ∷ 0 ∷ 9 ∷ 0 ∷ 0 ∷ 0 ∷ 0 ∷ 0 ∷ 0 ∷ 0 ∷ 9 ∷ 0 ∷ 0 ∷ 0 ∷ 0 ∷ 0 ∷ 0 ∷ 0 ∷ 3 ∷ 0 ∷ 0 ∷ 0
+    ∷ 0 ∷ 0 ∷ 0 ∷ 0 ∷ 9 ∷ 0 ∷ 0 ∷ 0 ∷ 0 ∷ 0 ∷ 0 ∷ 0 ∷ 8 ∷ []) faults.BadNumber
+    ∷ faulty places.Marks (0x28 ∷ 0 ∷ 0x1a ∷ 0 ∷ 1 ∷ 0 ∷ 0 ∷ 0 ∷ 0 ∷ 0 ∷ 0 ∷ 0 ∷ 2 ∷ 0xff ∷ 0xff
+    ∷ 0xff ∷ 0xff ∷ 0xff ∷ 0xff ∷ 0xff ∷ 0xf7 ∷ 0x1f ∷ 0xff ∷ 0xff ∷ 0xff ∷ 0xff ∷ 0xff ∷ 0xff
+    ∷ 0xff ∷ []) faults.BadNumber
     ∷ faulty places.ToVerifier (0x28 ∷ 0 ∷ 0x1a ∷ []) faults.BadKind
     ∷ faulty places.Leaves (0x28 ∷ 0 ∷ 0x1a ∷ []) faults.BadKind
     ∷ []
 
 -- in version 1 there are no marks, and no query for large entries of any stream
 abbrev pub no_above : List Faulty
-no_above = faulty places.Marks (0x28 ∷ 0 ∷ 0x1a ∷ 0 ∷ 1 ∷ 0 ∷ 0 ∷ 0 ∷ 0 ∷ 0 ∷ 0 ∷ 0 ∷ 2 ∷ 0xff ∷ 0xff ∷ 0xff ∷ 0xff ∷ 0xff ∷ 0xff ∷ 0xff ∷ 0xf7 ∷ 0 ∷ 0 ∷ 0 ∷ 0 ∷ 0 ∷ 0 ∷ 0 ∷ 9 ∷ []) faults.BadKind
+no_above =
+    faulty places.Marks (0x28 ∷ 0 ∷ 0x1a ∷ 0 ∷ 1 ∷ 0 ∷ 0 ∷ 0 ∷ 0 ∷ 0 ∷ 0 ∷ 0 ∷ 2 ∷ 0xff ∷ 0xff
+    ∷ 0xff ∷ 0xff ∷ 0xff ∷ 0xff ∷ 0xff ∷ 0xf7 ∷ 0 ∷ 0 ∷ 0 ∷ 0 ∷ 0 ∷ 0 ∷ 0 ∷ 9 ∷ []) faults.BadKind
     ∷ faulty places.Marks (0x28 ∷ 0 ∷ 2 ∷ []) faults.BadKind
-    ∷ faulty places.ToHelper (0x04 ∷ 0 ∷ 0x0a ∷ 7 ∷ 0 ∷ 0 ∷ 0 ∷ 0 ∷ 0 ∷ 0 ∷ 0 ∷ 0 ∷ 3 ∷ []) faults.BadCount
-    ∷ faulty places.AskedQuestion (0x04 ∷ 0 ∷ 0x0a ∷ 7 ∷ 0 ∷ 0 ∷ 0 ∷ 0 ∷ 0 ∷ 0 ∷ 0 ∷ 0 ∷ 3 ∷ []) faults.BadCount
+    ∷ faulty places.ToHelper (0x04 ∷ 0 ∷ 0x0a ∷ 7 ∷ 0 ∷ 0 ∷ 0 ∷ 0 ∷ 0 ∷ 0 ∷ 0 ∷ 0 ∷ 3 ∷ [])
+    faults.BadCount
+    ∷ faulty places.AskedQuestion
+    (0x04 ∷ 0 ∷ 0x0a ∷ 7 ∷ 0 ∷ 0 ∷ 0 ∷ 0 ∷ 0 ∷ 0 ∷ 0 ∷ 0 ∷ 3 ∷ []) faults.BadCount
     ∷ []

@@ -1,5 +1,6 @@
 -- What a frame shows, and what receiving more of it does.
-use Rattle.std.specs.Prelude.{◌≡◌, ℕ, ◌<◌, List, ◌++◌, if◌then◌else◌, length, take, Option, Result, MatchResult}
+use Rattle.std.specs.Prelude.{◌≡◌, ℕ, ◌<◌, List, ◌++◌, if◌then◌else◌, length, take, Option, Result}
+use Rattle.std.specs.Prelude.{MatchResult}
 use Rattle.sip_ports.specs.declared.port.TalkEvent.{TalkEvent}
 use Rattle.sip_ports.specs.Ports.{GoesOn, ins}
 use Rattle.sip_wire.specs.declared.frame.Frame.{Frame}

@@ -9,5 +9,6 @@ pub mod Faults
 pub mod Decoding
 pub mod AtHand
 pub mod Frames
+pub mod Taking
 pub mod Transcript
 pub mod Examples

@@ -1,5 +1,7 @@
 -- The one spelling of a message, and which fault comes where bytes are none.
-use Rattle.std.specs.Prelude.{◌≡◌, ℕ, ◌+◌, ◌-◌, ◌^◌, Bool, true, false, not, ◌&&◌, ◌==◌, nat_lt, List, [], ◌∷◌, ◌++◌, length, drop, slice_index, Option, Some, None, Result, MatchResult, All, if◌then◌else◌}
+use Rattle.std.specs.Prelude.{◌≡◌, ℕ, ◌+◌, ◌-◌, ◌^◌, Bool, true, false, not, ◌&&◌, ◌==◌, nat_lt}
+use Rattle.std.specs.Prelude.{List, [], ◌∷◌, ◌++◌, length, drop, slice_index, Option, Some, None}
+use Rattle.std.specs.Prelude.{Result, MatchResult, All, if◌then◌else◌}
 use Rattle.std.specs.List.{flat_map}
 use Rattle.std.specs.Int.{w64, cast_unsigned}
 use Rattle.byteorder.specs.Endian.{big_number, big_bytes}
@@ -21,7 +23,8 @@ use Rattle.sip_wire.specs.declared.kind.Kind.{Kind}
 use Rattle.sip_wire.specs.declared.kind.Kind.TheVariants as kinds
 use Rattle.sip_wire.specs.declared.kind.Place.{Place}
 use Rattle.sip_wire.specs.declared.version.Version.{Version}
-use Rattle.sip_wire.specs.Table.{Field, size, Shape, shape, query_fields, ends_in_order, kind_at, byte_of, allows, stands_in}
+use Rattle.sip_wire.specs.Table.{Field, size, Shape, shape, query_fields, ends_in_order, kind_at}
+use Rattle.sip_wire.specs.Table.{byte_of, allows, stands_in}
 use Rattle.sip_wire.specs.Values.{InRange}
 use Rattle.arrayvec.specs.ArrayVec.{ArrayVec}
 

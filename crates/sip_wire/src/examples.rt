@@ -4,7 +4,11 @@
 ghost use Rattle.std.specs.Prelude.{◌≡◌, ℕ, List, [], ◌∷◌, ◌++◌};
 ghost use Rattle.sip_vector.specs.declared.query.Query.TheVariants as queries;
 ghost use Rattle.sip_wire.specs.declared.version.Version.TheVariants.{One, Two};
-ghost use Rattle.sip_wire.specs.Examples.{AreSpelled, HaveFaults, above_frames, any_asks, found_faults, heavy_replies, held_faults, items_replies, look_frames, mark_faults, moment_replies, no_above, power_faults, power_frames, recall_frames, sent, stray_frames};
+ghost use Rattle.sip_wire.specs.Examples.{AreSpelled, HaveFaults, above_frames, any_asks};
+ghost use Rattle.sip_wire.specs.Examples.{found_faults, heavy_replies, held_faults, items_replies};
+ghost use Rattle.sip_wire.specs.Examples.{look_frames, mark_faults, moment_replies, no_above};
+ghost use Rattle.sip_wire.specs.Examples.{power_faults, power_frames, recall_frames, sent};
+ghost use Rattle.sip_wire.specs.Examples.{stray_frames};
 ghost use Rattle.sip_wire.specs.Transcript.{transcript};
 
 /// What the verifier sends in the worked talk is spelled by its bytes, and read back off them.
@@ -56,7 +60,8 @@ pub fn above_frames_are_spelled()
     ensures { (rest : List ℕ) → AreSpelled Two above_frames rest }
 {}
 
-/// The faults where what a helper holds is awaited, where marks are, and those of marks in version 1.
+/// The faults where what a helper holds is awaited, where marks are, and those of marks in version
+/// 1.
 pub fn faults_of_held_and_marks()
     ensures held_one { HaveFaults One held_faults }
     ensures held_two { HaveFaults Two held_faults }

@@ -4,8 +4,10 @@
 ghost use Rattle.std.specs.Prelude.{◌≡◌, ◌-◌, ◌&&◌, [], ◌∷◌, length};
 ghost use Rattle.std.specs.List.{flat_map};
 ghost use Rattle.sip_wire.specs.declared.message.Message.TheVariants as messages;
-ghost use Rattle.sip_wire.specs.Table.{query_shape, opening_fields, opens, found_fields, found_in_order, within_weights};
-ghost use Rattle.sip_wire.specs.Spelling.{all_hold, fits, fits_shape, kind_of, mark_numbers, query_code, query_numbers};
+ghost use Rattle.sip_wire.specs.Table.{query_shape, opening_fields, opens, found_fields};
+ghost use Rattle.sip_wire.specs.Table.{found_in_order, within_weights};
+ghost use Rattle.sip_wire.specs.Spelling.{all_hold, fits, fits_shape, kind_of, mark_numbers};
+ghost use Rattle.sip_wire.specs.Spelling.{query_code, query_numbers};
 
 use crate::Version;
 use crate::kind::Kind;

@@ -1,11 +1,12 @@
 //! The bytes of a frame.
 
-ghost use Rattle.std.specs.Prelude.{◌≡◌, ◌≤◌, vec_len};
+ghost use Rattle.std.specs.Prelude.{◌≡◌, ◌<◌, ◌≤◌, vec_len};
 ghost use Rattle.sip_wire.specs.Table.{longest_frame};
 
 use crate::Version;
-use crate::decoding::read_message;
-use crate::kind::Kind;
+use crate::at_hand::frame_length;
+use crate::decoding::{head_of, read_message};
+use crate::kind::{Kind, Place};
 use crate::message::{Message, WireFault};
 use arrayvec::ArrayVec;
 use sip_field::OutOfMemory;
@@ -22,8 +23,24 @@ pub const LONGEST_FRAME: usize = 8709;
 /// How many bytes the frame of a challenge has.
 pub const REVEAL_FRAME: usize = 11;
 
-/// What was received of a frame: room for the longest one, taken once, and how many bytes of it
-/// came; and the message that was read off a frame last.
+/// What bytes are that were put behind each other.
+#[derive(Clone, Copy, Debug, PartialEq, Eq)]
+pub enum Taken {
+    /// A frame that is not whole yet.
+    Part,
+    /// A frame that spells a message ([`Frame::message`]).
+    Whole,
+    /// No frame: they show this fault.
+    NoFrame(WireFault),
+}
+
+/// The bytes of a frame as they come: room for the longest one, taken once, and how many of them
+/// are there; and the message that was read off a frame last.
+///
+/// [`decode_within`](crate::decode_within) receives one frame off a link. Without a link, whoever
+/// has bytes puts as many as there is [`room`](Frame::room) for, and has what is there
+/// [`judged`](Frame::judge): what was put can be read in between ([`bytes`](Frame::bytes)), and
+/// stays until [`clear`](Frame::clear).
 #[derive(Drop)]
 pub struct Frame {
     buffer: Vec<u8>,
@@ -38,16 +55,17 @@ pub struct Frame {
 }
 
 impl Frame {
-    ghost use Rattle.std.specs.Prelude.{◌-◌, [], IsTrue, drop, length, IfOk, IsErrOf};
+    ghost use Rattle.std.specs.Prelude.{◌+◌, ◌-◌, ◌++◌, [], IsTrue, drop, length, IfOk, IsErrOf};
     ghost use Rattle.sip_ports.specs.Ports.{Lasts, Rose};
     ghost use Rattle.sip_wire.specs.Decoding.{IsBytes};
     ghost use Rattle.sip_wire.specs.Filling.{filled};
     ghost use Rattle.sip_wire.specs.Frames.{frame_bytes, frame_message, Receives};
-    ghost use Rattle.sip_wire.specs.Spelling.{ReadsBody};
+    ghost use Rattle.sip_wire.specs.Spelling.{ReadsBody, asked};
     ghost use Rattle.sip_wire.specs.Table.{shape};
+    ghost use Rattle.sip_wire.specs.Taking.{Judges, room_for};
 
-    /// A frame with no bytes. This is the only call of the crate that takes memory, for the bytes and
-    /// for two messages.
+    /// A frame with no bytes. This is the only call of the crate that takes memory, for the bytes
+    /// and for two messages.
     pub fn new(alloc: Global) -> Result<Frame, OutOfMemory>
         ensures { IfOk result (λ f. frame_bytes f ≡ []) }
     {
@@ -70,14 +88,16 @@ impl Frame {
         })
     }
 
-    /// The bytes that the last `decode` received, also where it failed.
+    /// The bytes that are there: those that the last `decode` received, also where it failed, or
+    /// that were put since the last `clear`.
     pub fn bytes(&self) -> &[u8]
         ensures { result.now ≡ frame_bytes self.now }
     {
         &self.buffer[..self.taken]
     }
 
-    /// The message that was read last, by a call of `decode_within` that answered `Ok`.
+    /// The message that was read last, by a call of `decode_within` that answered `Ok` or a call of
+    /// `judge` that answered `Whole`.
     pub fn message(&self) -> &Message
         ensures { result.now ≡ frame_message self.now }
     {
@@ -87,11 +107,74 @@ impl Frame {
         &*self.other
     }
 
-    /// Forgets what was received.
-    pub(crate) fn clear(&mut self)
-        ensures { frame_bytes self.new ≡ [] }
+    /// Forgets the bytes, and not the message.
+    pub fn clear(&mut self)
+        ensures bytes { frame_bytes self.new ≡ [] }
+        ensures message { frame_message self.new ≡ frame_message self.old }
     {
         self.taken = 0;
+    }
+
+    /// How many more bytes a frame of a version takes before it is looked at: up to its head, and
+    /// then up to its end. It is 0 where the frame is whole, and where no frame begins so.
+    pub fn room(&self, place: Place, version: Version) -> usize
+        ensures room { result ≡ room_for version place (frame_bytes self.now) }
+        ensures some { length (frame_bytes self.now) < asked version place (frame_bytes self.now)
+            → 0 < result }
+    {
+        let bytes = self.bytes();
+        if bytes.len() < HEAD {
+            return HEAD - bytes.len();
+        }
+        frame_length(place, version, bytes).saturating_sub(bytes.len())
+    }
+
+    /// Puts bytes behind those that are there.
+    fn append(&mut self, bytes: &[u8])
+        requires { length (frame_bytes self.old) + length bytes.now ≤ longest_frame }
+        ensures takes { frame_bytes self.new ≡ frame_bytes self.old ++ bytes.now }
+        ensures message { frame_message self.new ≡ frame_message self.old }
+    {
+        let upto = self.taken + bytes.len();
+        self.buffer[self.taken..upto].copy_from_slice(bytes);
+        self.taken = upto;
+    }
+
+    /// Puts bytes of a frame of a version behind those that are there, no more than there is room
+    /// for. It takes no memory.
+    pub fn put(&mut self, place: Place, version: Version, bytes: &[u8])
+        requires { length bytes.now ≤ room_for version place (frame_bytes self.old) }
+        ensures takes { frame_bytes self.new ≡ frame_bytes self.old ++ bytes.now }
+        ensures most { length (frame_bytes self.old) ≤ asked version place (frame_bytes self.old)
+            → length (frame_bytes self.new) ≤ asked version place (frame_bytes self.new) }
+        ensures message { frame_message self.new ≡ frame_message self.old }
+    {
+        self.append(bytes);
+    }
+
+    /// Looks at the bytes that are there, no more than the frame has that begins with them: a frame
+    /// that is not whole yet, a message, which the frame then has, or a fault, the first in the
+    /// order of [`WireFault`].
+    pub fn judge(&mut self, place: Place, version: Version) -> Taken
+        requires { length (frame_bytes self.old) ≤ asked version place (frame_bytes self.old) }
+        ensures bytes { frame_bytes self.new ≡ frame_bytes self.old }
+        ensures judges { Judges version place (frame_bytes self.old) (frame_message self.new)
+            result }
+    {
+        if self.taken < HEAD {
+            return Taken::Part;
+        }
+        let (kind, len) = match head_of(version, place, self.bytes()) {
+            Ok(head) => head,
+            Err(fault) => return Taken::NoFrame(fault),
+        };
+        if self.taken < HEAD + len {
+            return Taken::Part;
+        }
+        match self.read(version, kind) {
+            Ok(()) => Taken::Whole,
+            Err(fault) => Taken::NoFrame(fault),
+        }
     }
 
     /// Receives until so many bytes are there. `Closed` where the link ended before, `PeerFault`

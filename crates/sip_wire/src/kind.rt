@@ -1,7 +1,9 @@
 //! The kinds of message, and where each may stand. A refusal may stand wherever a reply is awaited.
 
-ghost use Rattle.std.specs.Prelude.{◌≡◌, ◌<◌, ◌≤◌, ◌^◌, ◌+◌, IsTrue, ◌*◌, ◌-◌, ◌%◌, ◌==◌, ◌&&◌, nat_le};
-ghost use Rattle.sip_wire.specs.Table.{byte_of, degree_at, kind_at, allows, stands_in, shape, query_shape, longest_body};
+ghost use Rattle.std.specs.Prelude.{◌≡◌, ◌<◌, ◌≤◌, ◌^◌, ◌+◌, IsTrue, ◌*◌, ◌-◌, ◌%◌, ◌==◌, ◌&&◌};
+ghost use Rattle.std.specs.Prelude.{nat_le};
+ghost use Rattle.sip_wire.specs.Table.{byte_of, degree_at, kind_at, allows, stands_in, shape};
+ghost use Rattle.sip_wire.specs.Table.{query_shape, longest_body};
 
 use crate::Version;
 use crate::message::{Leaf, MOST_DEGREE, MOST_NODES, MOST_ROWS, Mark, Node};

@@ -1,6 +1,7 @@
 //! What the spellings are like, and how the definitions are tied to each other.
 
-ghost use Rattle.std.specs.Prelude.{◌≡◌, ◌≢◌, ◌≤◌, ◌+◌, ◌*◌, ◌++◌, ◌↔◌, ℕ, ℤ, List, [], Ok, Err, length, nat_abs, IsTrue, All, FitsSigned};
+ghost use Rattle.std.specs.Prelude.{◌≡◌, ◌≢◌, ◌≤◌, ◌+◌, ◌*◌, ◌++◌, ◌↔◌, ℕ, ℤ, List, [], Ok, Err};
+ghost use Rattle.std.specs.Prelude.{length, nat_abs, IsTrue, All, FitsSigned};
 ghost use Rattle.std.specs.Int.{w64};
 ghost use Rattle.sip_vector.specs.declared.query.Query.{Query as AnyQuery};
 ghost use Rattle.sip_vector.specs.Answers.{Fits};
@@ -13,7 +14,8 @@ ghost use Rattle.sip_wire.specs.declared.message.WireFault.{WireFault as AnyFaul
 ghost use Rattle.sip_wire.specs.declared.message.WireFault.TheVariants as faults;
 ghost use Rattle.sip_wire.specs.declared.version.Version.{Version as AnyVersion};
 ghost use Rattle.sip_wire.specs.declared.version.Version.TheVariants.{Two};
-ghost use Rattle.sip_wire.specs.Table.{shape, size, update_fields, most_rows, most_claim, longest_frame, allows, IsLengthOfMark};
+ghost use Rattle.sip_wire.specs.Table.{shape, size, update_fields, most_rows, most_claim};
+ghost use Rattle.sip_wire.specs.Table.{longest_frame, allows, IsLengthOfMark};
 ghost use Rattle.sip_wire.specs.Spelling.{fits, kind_of, spelling, asked};
 ghost use Rattle.sip_wire.specs.Values.{InRange};
 ghost use Rattle.sip_wire.specs.Versions.{Speaks, needed};

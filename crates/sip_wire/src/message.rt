@@ -115,8 +115,8 @@ pub enum Message {
     Refuse {
         code: u8,
     },
-    /// A lookup is asked at an item: its code is 1 for the item itself, 2 for the nearest entry up to
-    /// it and 3 for the nearest from it on. Any number has a spelling here.
+    /// A lookup is asked at an item: its code is 1 for the item itself, 2 for the nearest entry up
+    /// to it and 3 for the nearest from it on. Any number has a spelling here.
     AskLook {
         code: u8,
         item: u64,

@@ -1,12 +1,16 @@
 //! A row of numbers: an update, an entry, a leaf, a node, a mark or a coefficient.
 #![tactic(auto, using(std::proofs::lemmas::Grind::common_steps), unfolding(crate::specs::Spelling::numbers_in, crate::specs::Spelling::all_hold, crate::specs::Spelling::has_room, crate::specs::Spelling::spelled))]
 
-ghost use Rattle.std.specs.Prelude.{◌≡◌, ◌≤◌, refl, ◌^◌, ◌<◌, ◌+◌, ◌++◌, ◌&&◌, ℕ, List, [], ◌∷◌, true, false, length, drop, IfSome, IfNone, FitsSigned, ⊤};
+ghost use Rattle.std.specs.Prelude.{◌≡◌, ◌≤◌, refl, ◌^◌, ◌<◌, ◌+◌, ◌++◌, ◌&&◌, ℕ, List, [], ◌∷◌};
+ghost use Rattle.std.specs.Prelude.{true, false, length, drop, IfSome, IfNone, FitsSigned, ⊤};
 ghost use Rattle.std.specs.Int.{w64};
 ghost use Rattle.arrayvec.specs.ArrayVec.{array_vec_len};
 ghost use Rattle.sip_wire.specs.declared.version.Version.{Version as AnyVersion};
-ghost use Rattle.sip_wire.specs.Table.{Field, size, longest_frame, update_fields, entry_fields, leaf_fields, node_fields, mark_fields, element};
-ghost use Rattle.sip_wire.specs.Spelling.{numbers_in, all_hold, has_room, spelled, side_number, update_numbers, entry_numbers, leaf_numbers, node_numbers, mark_numbers, coefficient_numbers};
+ghost use Rattle.sip_wire.specs.Table.{Field, size, longest_frame, update_fields, entry_fields};
+ghost use Rattle.sip_wire.specs.Table.{leaf_fields, node_fields, mark_fields, element};
+ghost use Rattle.sip_wire.specs.Spelling.{numbers_in, all_hold, has_room, spelled, side_number};
+ghost use Rattle.sip_wire.specs.Spelling.{update_numbers, entry_numbers, leaf_numbers};
+ghost use Rattle.sip_wire.specs.Spelling.{node_numbers, mark_numbers, coefficient_numbers};
 
 use crate::Version;
 use crate::message::{Leaf, Mark, Node};

@@ -1,6 +1,7 @@
 //! Rows, one after the other.
 
-ghost use Rattle.std.specs.Prelude.{◌≡◌, ◌≤◌, ◌+◌, ◌++◌, ◌&&◌, true, false, length, OnSome, IfNone, All};
+ghost use Rattle.std.specs.Prelude.{◌≡◌, ◌≤◌, ◌+◌, ◌++◌, ◌&&◌, true, false, length, OnSome, IfNone};
+ghost use Rattle.std.specs.Prelude.{All};
 ghost use Rattle.std.specs.List.{flat_map};
 ghost use Rattle.arrayvec.specs.ArrayVec.{array_vec_len};
 ghost use Rattle.sip_wire.specs.Table.{size, repeat, counted, most_rows, longest_frame};
@@ -14,8 +15,8 @@ use crate::numbers::{Bytes, put_u16, take_u16};
 use crate::row::Row;
 use arrayvec::ArrayVec;
 
-/// Makes the rows so many, whatever they say. Where they are as many, as those of one frame after another mostly are, nothing is
-/// written: to clear them would be to write all of them.
+/// Makes the rows so many, whatever they say. Where they are as many, as those of one frame after
+/// another mostly are, nothing is written: to clear them would be to write all of them.
 fn make_rows<T: Row + Drop, const CAP: usize>(rows: &mut ArrayVec<T, CAP>, count: usize)
     requires { count ≤ CAP }
     ensures { length rows.new.items ≡ count }

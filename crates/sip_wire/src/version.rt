@@ -2,7 +2,8 @@
 
 ghost use Rattle.std.specs.Prelude.{◌≡◌, ◌≤◌, ◌<◌, ◌^◌, length, nat_lt};
 ghost use Rattle.std.specs.List.{list_any};
-ghost use Rattle.sip_wire.specs.Versions.{number_of, version_at, deepest, index_width, is_of_two, speaks, needed};
+ghost use Rattle.sip_wire.specs.Versions.{number_of, version_at, deepest, index_width, is_of_two};
+ghost use Rattle.sip_wire.specs.Versions.{speaks, needed};
 
 use sip_vector::{Depth, Query};
 

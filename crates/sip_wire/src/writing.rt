@@ -5,8 +5,10 @@ ghost use Rattle.std.specs.Prelude.{◌≡◌, ◌≤◌, ◌+◌, ◌++◌, IsT
 ghost use Rattle.arrayvec.specs.ArrayVec.{array_vec_len};
 ghost use Rattle.sip_wire.specs.declared.kind.Kind.TheVariants as kinds;
 ghost use Rattle.sip_wire.specs.declared.message.Message.TheVariants as messages;
-ghost use Rattle.sip_wire.specs.Table.{size, most_rows, shape, query_shape, siblings_shape, query_fields, longest_body, longest_frame};
-ghost use Rattle.sip_wire.specs.Spelling.{flag, present, body_in, body_of, fits, fits_shape, kind_of, mark_of, query_code, query_numbers};
+ghost use Rattle.sip_wire.specs.Table.{size, most_rows, shape, query_shape, siblings_shape};
+ghost use Rattle.sip_wire.specs.Table.{query_fields, longest_body, longest_frame};
+ghost use Rattle.sip_wire.specs.Spelling.{flag, present, body_in, body_of, fits, fits_shape};
+ghost use Rattle.sip_wire.specs.Spelling.{kind_of, mark_of, query_code, query_numbers};
 
 use crate::Version;
 use crate::fitting::degree_of;

@@ -1,8 +1,8 @@
 // Words that are commands: what they ask for, and what they open.
 
-use crate::case::Case;
 use crate::page_tests::words_between;
 use sip_cli::{Command, Opening, Words, ports, read_words};
+use sip_command_tests::case::Case;
 use sip_lookup::Lookup;
 use sip_moments::Moment;
 use sip_stream::Form;
@@ -105,15 +105,17 @@ fn check_asked(rt: &impl Abort, alloc: Global) -> Result<(), Fail> {
         name: "lookups and moments",
         number: 0,
     };
-    case.holds(rt, reads_lookups(&looks, LOOKUPS));
-    case.holds(rt, reads_moments(&moments, MOMENTS));
+    case.holds(reads_lookups(&looks, LOOKUPS))
+        .expect(rt, "a case");
+    case.holds(reads_moments(&moments, MOMENTS))
+        .expect(rt, "a case");
     let helpers = (
         read_words(&words(alloc, "helplook|f|t")?),
         read_words(&words(alloc, "helpmom|f|t")?),
     );
     let are_helpers = matches!(helpers.0, Ok(Command::HelpLook))
         && matches!(helpers.1, Ok(Command::HelpMoments));
-    case.holds(rt, are_helpers);
+    case.holds(are_helpers).expect(rt, "a case");
     Ok(())
 }
 
@@ -127,8 +129,10 @@ fn reads_the_task(rt: HostRuntime) -> Result<(), Fail> {
         name: "seven queries",
         number: 0,
     };
-    case.holds(&rt, reads_queries(&words, QUERIES));
-    case.holds(&rt, words.get(3) == Some("f") && words.get(14).is_none());
+    case.holds(reads_queries(&words, QUERIES))
+        .expect(&rt, "a case");
+    case.holds(words.get(3) == Some("f") && words.get(14).is_none())
+        .expect(&rt, "a case");
     check_asked(&rt, rt.alloc())
 }
 
@@ -203,7 +207,7 @@ fn check_read(rt: &impl Abort, alloc: Global, rows: &[Read]) -> Result<(), Fail>
             Ok(command) => form_and_depth(&command) == (form, depth),
             Err(_) => false,
         };
-        Case { name, number: 0 }.holds(rt, is_read);
+        Case { name, number: 0 }.holds(is_read).expect(rt, "a case");
     }
     Ok(())
 }
@@ -314,7 +318,9 @@ fn check_files(rt: &impl Abort, alloc: Global, rows: &[Files]) -> Result<(), Fai
             .iter()
             .zip(*want)
         {
-            Case { name, number: 0 }.holds(rt, opening.name(&words) == *file);
+            Case { name, number: 0 }
+                .holds(opening.name(&words) == *file)
+                .expect(rt, "a case");
         }
     }
     Ok(())
@@ -353,7 +359,9 @@ fn made(opening: &Opening) -> Option<(u64, u64, u8)> {
 fn check_made(rt: &impl Abort, alloc: Global, rows: &[Made]) -> Result<(), Fail> {
     for &(name, want) in rows {
         let plan = ports(&words(alloc, name)?);
-        Case { name, number: 0 }.holds(rt, made(&plan.first) == Some(want));
+        Case { name, number: 0 }
+            .holds(made(&plan.first) == Some(want))
+            .expect(rt, "a case");
     }
     Ok(())
 }

@@ -1,7 +1,7 @@
 // The line and the exit code that each status has.
 
-use crate::case::Case;
 use sip_cli::finish;
+use sip_command_tests::case::Case;
 use sip_ports::{MemorySink, PortStop};
 use sip_stream::Why;
 use sip_vector::Side;
@@ -137,8 +137,10 @@ fn check_endings(rt: &impl Abort, alloc: Global, rows: &[Ending]) {
             name: line,
             number: index as u64,
         };
-        case.holds(rt, ending.code == *code && ending.line == Ok(()));
-        case.writes(rt, sink.bytes(), line.as_bytes());
+        case.holds(ending.code == *code && ending.line == Ok(()))
+            .expect(rt, "a case");
+        case.writes(sink.bytes(), line.as_bytes())
+            .expect(rt, "a case");
     }
 }
 
@@ -154,10 +156,8 @@ fn each_status_has_its_line_and_code(rt: HostRuntime) -> Result<(), Fail> {
         name: "the sixth write fails",
         number: 6,
     };
-    case.holds(
-        &rt,
-        ending.code == 3 && ending.line == Err(PortStop::Failed),
-    );
-    case.writes(&rt, sink.bytes(), b"sip: ");
+    case.holds(ending.code == 3 && ending.line == Err(PortStop::Failed))
+        .expect(&rt, "a case");
+    case.writes(sink.bytes(), b"sip: ").expect(&rt, "a case");
     Ok(())
 }

@@ -1,8 +1,8 @@
 // The line of advice behind the line of a status.
 
-use crate::case::Case;
 use crate::page_tests::words_between;
 use sip_cli::{Words, finish, hint};
+use sip_command_tests::case::Case;
 use sip_ports::MemorySink;
 use sip_stream::Why;
 use sip_vector::Side;
@@ -161,7 +161,7 @@ fn check_refused(rt: &impl Abort, alloc: Global, rows: &[Refused]) -> Result<(),
             want,
         );
         let number = word as u64;
-        Case { name, number }.holds(rt, named);
+        Case { name, number }.holds(named).expect(rt, "a case");
     }
     Ok(())
 }
@@ -173,7 +173,7 @@ fn check_illegal(rt: &impl Abort, alloc: Global, rows: &[Illegal]) -> Result<(),
             Status::BadStream { at, why },
             want,
         );
-        Case { name, number: at }.holds(rt, named);
+        Case { name, number: at }.holds(named).expect(rt, "a case");
     }
     Ok(())
 }
@@ -189,7 +189,7 @@ fn check_ended(rt: &impl Abort, alloc: Global, rows: &[Ended]) -> Result<(), Fai
             name: "a status",
             number: index as u64,
         };
-        case.holds(rt, holds);
+        case.holds(holds).expect(rt, "a case");
     }
     Ok(())
 }
@@ -203,8 +203,10 @@ fn check_failing(rt: &impl Abort, alloc: Global, number: u64, want: &str) -> Res
     let ending = finish(&status, &mut sink);
     let advised = ending.advise(&words, &status, &mut sink);
     let case = Case { name: want, number };
-    case.holds(rt, advised == ending && advised.code == 2);
-    case.writes(rt, sink.bytes(), want.as_bytes());
+    case.holds(advised == ending && advised.code == 2)
+        .expect(rt, "a case");
+    case.writes(sink.bytes(), want.as_bytes())
+        .expect(rt, "a case");
     Ok(())
 }
 

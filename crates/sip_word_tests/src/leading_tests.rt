@@ -1,7 +1,7 @@
 // The word in front of a command that asks for its progress.
 
-use crate::case::Case;
 use crate::page_tests::words_between;
+use sip_command_tests::case::Case;
 use std::test::Fail;
 
 // Words with a bar between them, those behind `--progress`, and whether it is there.
@@ -25,7 +25,7 @@ fn progress_stands_before_the_words(rt: HostRuntime) -> Result<(), Fail> {
         for (index, word) in want.split('|').enumerate() {
             same = same && words.get(index).unwrap_or("") == word;
         }
-        Case { name, number: 0 }.holds(&rt, same);
+        Case { name, number: 0 }.holds(same).expect(&rt, "a case");
     }
     Ok(())
 }

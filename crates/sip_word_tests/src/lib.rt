@@ -3,8 +3,6 @@
 #![tactic(auto)]
 
 #[cfg(test)]
-mod case;
-#[cfg(test)]
 mod command_tests;
 #[cfg(test)]
 mod exit_tests;

@@ -1,7 +1,7 @@
 // The pages that one word asks for.
 
-use crate::case::Case;
 use sip_cli::{HELP, VERSION, Words, page_of, read_words, write_page};
+use sip_command_tests::case::Case;
 use sip_ports::MemorySink;
 use sip_verifier::{Port, Status};
 use std::alloc::Global;
@@ -33,19 +33,23 @@ const ASKED: &[Asked<'static>] = &[
 fn check_asked(rt: &impl Abort, alloc: Global, rows: &[Asked]) -> Result<(), Fail> {
     for &(name, want) in rows {
         let page = page_of(&words_between(alloc, name, '|')?);
-        Case { name, number: 0 }.holds(rt, page == want);
+        Case { name, number: 0 }
+            .holds(page == want)
+            .expect(rt, "a case");
     }
     let nothing = Case {
         name: "no word",
         number: 0,
     };
-    nothing.holds(rt, page_of(&Words::of(Vec::new(alloc))).is_none());
+    nothing
+        .holds(page_of(&Words::of(Vec::new(alloc))).is_none())
+        .expect(rt, "a case");
     Ok(())
 }
 
 // The examples of the page are commands.
 const EXAMPLES: &[&str] = &[
-    "verify log.stream today.seed from.fifo to.fifo - 20 sub:100:199 range:0:0:1048575 f2:0 inner",
+    "verify log.stream today.seed from.fifo to.fifo - 20 sub:100:199 range:0:0:1048575 inner",
     "play made:7:100000 today.seed honest - 20 sub:0:99 range:0:0:1048575 f2:0 inner",
     "panel made:7:100000 today.seed mute,skewed,honest 20 sub:0:99 f2:0",
     "help to.fifo from.fifo",
@@ -64,7 +68,9 @@ const EXAMPLES: &[&str] = &[
 fn check_examples(rt: &impl Abort, alloc: Global, examples: &[&str]) -> Result<(), Fail> {
     for &name in examples {
         let is_read = read_words(&words_between(alloc, name, ' ')?).is_ok();
-        Case { name, number: 0 }.holds(rt, is_read && HELP.contains(name));
+        Case { name, number: 0 }
+            .holds(is_read && HELP.contains(name))
+            .expect(rt, "a case");
     }
     Ok(())
 }
@@ -84,8 +90,9 @@ fn check_failing(
         name: "a page that fails",
         number,
     };
-    case.ends(rt, status, want);
-    case.writes(rt, sink.bytes(), written.as_bytes());
+    case.ends(status, want).expect(rt, "a case");
+    case.writes(sink.bytes(), written.as_bytes())
+        .expect(rt, "a case");
     Ok(())
 }
 

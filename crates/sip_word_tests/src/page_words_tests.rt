@@ -1,11 +1,11 @@
 // The words that ask for a text, and what the page says.
 
-use crate::case::Case;
 use crate::page_tests::words_between;
 use sip_cli::{
     AUDIT_PART, GEN_PART, HELP, HELP_PART, HELPLOOK_PART, HELPMOM_PART, LINES_PART, LOOKUP_PART,
     MOMENTS_PART, PANEL_PART, PLAY_PART, VERIFY_PART, VERSION, WIDEN_PART, page_of,
 };
+use sip_command_tests::case::Case;
 use std::alloc::Global;
 use std::process::Abort;
 use std::test::Fail;
@@ -72,7 +72,9 @@ const PARTS: &[Asked<'static>] = &[
 fn check_asked(rt: &impl Abort, alloc: Global, rows: &[Asked]) -> Result<(), Fail> {
     for &(name, want) in rows {
         let text = page_of(&words_between(alloc, name, '|')?);
-        Case { name, number: 0 }.holds(rt, text == want);
+        Case { name, number: 0 }
+            .holds(text == want)
+            .expect(rt, "a case");
     }
     Ok(())
 }
@@ -115,7 +117,8 @@ const SAID: &[&str] = &[
     "\n      BadItem ",
     "\n      ZeroDelta ",
     "\n      TooHeavy(S) ",
-    "first is STREAM or STORED, second is SEED or TRANSCRIPT",
+    "first is STREAM or STORED",
+    "second is SEED or TRANSCRIPT",
     "record N of a text is line N + 1",
     "1073741823",
     "1048575",
@@ -123,7 +126,9 @@ const SAID: &[&str] = &[
 
 fn check_said(rt: &impl Abort, said: &[&str]) {
     for &name in said {
-        Case { name, number: 0 }.holds(rt, HELP.contains(name));
+        Case { name, number: 0 }
+            .holds(HELP.contains(name))
+            .expect(rt, "a case");
     }
 }
 

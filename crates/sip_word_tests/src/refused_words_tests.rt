@@ -1,8 +1,8 @@
 // Words that are no command, and which of them no command has behind those before.
 
-use crate::case::Case;
 use crate::page_tests::words_between;
 use sip_cli::{Usage, Words, read_words};
+use sip_command_tests::case::Case;
 use std::alloc::Global;
 use std::process::Abort;
 use std::test::Fail;
@@ -302,13 +302,17 @@ const REFUSALS: &[Refusal<'static>] = &[
 pub fn check_refusals(rt: &impl Abort, alloc: Global, rows: &[Refusal]) -> Result<(), Fail> {
     for &(name, want) in rows {
         let word = refused_at(&words_between(alloc, name, '|')?);
-        Case { name, number: 0 }.holds(rt, word == want);
+        Case { name, number: 0 }
+            .holds(word == want)
+            .expect(rt, "a case");
     }
     let nothing = Case {
         name: "no word",
         number: 0,
     };
-    nothing.holds(rt, refused_at(&Words::of(Vec::new(alloc))) == Some(0));
+    nothing
+        .holds(refused_at(&Words::of(Vec::new(alloc))) == Some(0))
+        .expect(rt, "a case");
     Ok(())
 }
 

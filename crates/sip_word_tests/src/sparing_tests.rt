@@ -1,8 +1,8 @@
 // Which outputs are not opened, by the files that the openings are on.
 
-use crate::case::Case;
 use crate::page_tests::words_between;
 use sip_cli::{FileId, Opening, PlanFiles, PortPlan, ports};
+use sip_command_tests::case::Case;
 use std::process::Abort;
 use std::test::Fail;
 
@@ -52,7 +52,7 @@ fn check_spared(rt: &impl Abort, plan: &PortPlan, rows: &[Spared]) {
             name: "outputs left out",
             number: index as u64,
         };
-        case.holds(rt, spared == want);
+        case.holds(spared == want).expect(rt, "a case");
     }
 }
 

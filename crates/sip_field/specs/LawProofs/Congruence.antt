@@ -10,7 +10,9 @@ pub record Same (q a b : ℕ) : Type 0 where
 
 -- the same as to have one remainder
 pub same_mod : (q a b : ℕ) → Same q a b → a % q ≡ b % q
-same_mod q a b h = sym (add-mul-mod_self_left a q h.left) ∙ ap (λ n. n % q) h.is ∙ add-mul-mod_self_left b q h.right
+same_mod q a b h =
+    sym (add-mul-mod_self_left a q h.left) ∙ ap (λ n. n % q) h.is
+    ∙ add-mul-mod_self_left b q h.right
 
 pub mod_same : (q a b : ℕ) → a % q ≡ b % q → Same q a b
 mod_same q a b e = record {
@@ -27,10 +29,12 @@ pub same_sym : (q a b : ℕ) → Same q a b → Same q b a
 same_sym q a b h = record { left = h.right; right = h.left; is = sym h.is }
 
 pub same_trans : (q a b c : ℕ) → Same q a b → Same q b c → Same q a c
-same_trans q a b c h k = record { left = h.left + k.left; right = h.right + k.right; is = omega (arith, h.is, k.is) }
+same_trans q a b c h k =
+    record { left = h.left + k.left; right = h.right + k.right; is = omega (arith, h.is, k.is) }
 
 pub same_plus : (q a b c d : ℕ) → Same q a b → Same q c d → Same q (a + c) (b + d)
-same_plus q a b c d h k = record { left = h.left + k.left; right = h.right + k.right; is = omega (arith, h.is, k.is) }
+same_plus q a b c d h k =
+    record { left = h.left + k.left; right = h.right + k.right; is = omega (arith, h.is, k.is) }
 
 -- the product of two sides, with the multiples of q apart
 expanded : (q a s c t : ℕ) → a * c + q * (a * t + s * c + q * s * t) ≡ (a + q * s) * (c + q * t)

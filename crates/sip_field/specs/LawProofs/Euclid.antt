@@ -1,5 +1,6 @@
 -- A prime divides a product only if it divides a factor.
-use Rattle.std.proofs.Common.{◌≡◌, ◌≢◌, ℕ, zero, suc, ◌+◌, ◌*◌, ◌%◌, ◌/◌, ◌<◌, ◌≤◌, inl, inr, sym, ◌∙◌, ap, arith}
+use Rattle.std.proofs.Common.{◌≡◌, ◌≢◌, ℕ, zero, suc, ◌+◌, ◌*◌, ◌%◌, ◌/◌, ◌<◌, ◌≤◌, inl, inr, sym}
+use Rattle.std.proofs.Common.{◌∙◌, ap, arith}
 use Rattle.std.proofs.lemmas.Bool.{cases_eq}
 use Rattle.std.proofs.lemmas.Nat.{mul-mod_first, mul-mod_second}
 use Rattle.std.proofs.Math.Nat.{mod-lt, mod-add-div, add-mod-mod, mul-mod_right}
@@ -8,9 +9,14 @@ use Rattle.sip_field.specs.Prime.{IsPrime, NoZeroDivisor}
 -- the rest of p by a, times b, is a multiple of p where a * b is
 rest_multiple : (p a b : ℕ) → (a * b) % p ≡ 0 → (p % a * b) % p ≡ 0
 rest_multiple p a b e =
-    let times : (p / a * (a * b)) % p ≡ 0 = sym (mul-mod_second (p / a) (a * b) p) ∙ ap (λ n. (p / a * n) % p) e ∙ ap (λ n. n % p) (omega arith) ∙ zero_mod p in
-    let whole : p % a * b + p / a * (a * b) ≡ p * b = (let h : (p % a + a * (p / a)) * b ≡ p * b = ap (λ n. n * b) (mod-add-div p a) in omega arith) in
-    ap (λ n. n % p) (omega arith) ∙ ap (λ n. (p % a * b + n) % p) (sym times) ∙ add-mod-mod (p % a * b) (p / a * (a * b)) p
+    let times : (p / a * (a * b)) % p ≡ 0 =
+    sym (mul-mod_second (p / a) (a * b) p) ∙ ap (λ n. (p / a * n) % p) e
+    ∙ ap (λ n. n % p) (omega arith) ∙ zero_mod p in
+    let whole : p % a * b + p / a * (a * b) ≡ p * b =
+    (let h : (p % a + a * (p / a)) * b ≡ p * b = ap (λ n. n * b) (mod-add-div p a) in
+    omega arith) in
+    ap (λ n. n % p) (omega arith) ∙ ap (λ n. (p % a * b + n) % p) (sym times)
+    ∙ add-mod-mod (p % a * b) (p / a * (a * b)) p
     ∙ ap (λ n. n % p) whole ∙ mul-mod_right p b
   where
     zero_mod : (p : ℕ) → 0 % p ≡ 0
@@ -34,5 +40,6 @@ euclid p prime a b e = elim (cases_eq (a % p) 0) [
   | inr some ↦
       let pos : 0 < p = let one = prime.above_one in omega arith in
       let small : a % p < p = mod-lt a pos in
-      inr (descent p prime b (a % p) (a % p) (omega arith) (omega arith) small (mul-mod_first a b p ∙ e))
+      inr (descent p prime b (a % p) (a % p) (omega arith) (omega arith) small
+      (mul-mod_first a b p ∙ e))
 ]

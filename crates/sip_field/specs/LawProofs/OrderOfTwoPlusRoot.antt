@@ -1,12 +1,14 @@
 -- No two of the powers of 2 + √3 below the 2^(e + 1)-th are the same modulo q, where the 2^e-th is
 -- -1.
-use Rattle.std.proofs.Common.{◌≡◌, ◌≢◌, ℕ, zero, suc, ◌+◌, ◌-◌, ◌*◌, ◌%◌, ◌/◌, ◌^◌, ◌<◌, ◌≤◌, ◌⊎◌, inl, inr, refl, sym, ◌∙◌, ap, subst, arith}
+use Rattle.std.proofs.Common.{◌≡◌, ◌≢◌, ℕ, zero, suc, ◌+◌, ◌-◌, ◌*◌, ◌%◌, ◌/◌, ◌^◌, ◌<◌, ◌≤◌, ◌⊎◌}
+use Rattle.std.proofs.Common.{inl, inr, refl, sym, ◌∙◌, ap, subst, arith}
 use Rattle.std.proofs.Math.Nat.{mod-lt, mul-le-mul_left, mod-eq_of_lt, pow-zero, pow-suc}
 use Rattle.std.proofs.lemmas.Nat.{pow-add}
 use Rattle.std.proofs.lemmas.Bool.{cases_eq}
 use Rattle.std.proofs.Math.Arith.{digits_mod, digits_div}
 use Rattle.sip_field.specs.LawProofs.Congruence.{same_mod, mod_same}
-use Rattle.sip_field.specs.LawProofs.Pairs.{times, power, Near, near_sym, near_trans, near_times, power_add, power_down, power_of_one}
+use Rattle.sip_field.specs.LawProofs.Pairs.{times, power, Near, near_sym, near_trans, near_times}
+use Rattle.sip_field.specs.LawProofs.Pairs.{power_add, power_down, power_of_one}
 use Rattle.sip_field.specs.LawProofs.Pigeon.{pigeon}
 
 -- a number is twice another, or one more
@@ -27,7 +29,9 @@ minus_squared q big = record {
   whole = record {
     left = 0;
     right = q - 2;
-    is = (let r : q ≡ (q - 2) + 2 = omega arith in let t : q - 1 ≡ (q - 2) + 1 = omega arith in omega (arith, ap (λ n. n * n) t, ap (λ n. n * (q - 2)) r));
+    is = (let r : q ≡ (q - 2) + 2 = omega arith in
+        let t : q - 1 ≡ (q - 2) + 1 = omega arith in
+        omega (arith, ap (λ n. n * n) t, ap (λ n. n * (q - 2)) r));
   };
   root = record { left = 0; right = 0; is = omega arith };
 }
@@ -42,12 +46,17 @@ module _ (q e : ℕ) (big : 2 < q) (minus : Near q (power (2 ^ e)) (minus_one q)
   -- -1 times 1 is -1
   times_one : Near q (times (minus_one q) (power 0)) (minus_one q)
   unfolding times power minus_one
-  times_one = record { whole = record { left = 0; right = 0; is = omega arith }; root = record { left = 0; right = 0; is = omega arith } }
+  times_one = record {
+    whole = record { left = 0; right = 0; is = omega arith };
+    root = record { left = 0; right = 0; is = omega arith };
+  }
 
   -- and the power of an odd multiple of it is -1
   odd_power : (h : ℕ) → Near q (power (2 ^ e * (1 + 2 * h))) (minus_one q)
-  odd_power h = rw (let d : 2 ^ e * (1 + 2 * h) ≡ 2 ^ e + 2 ^ e * 2 * h = omega arith in d, power_add)
-      (near_trans q _ _ _ (near_times q _ _ _ _ minus (power_of_one q (2 ^ e * 2) twice h)) times_one)
+  odd_power h =
+      rw (let d : 2 ^ e * (1 + 2 * h) ≡ 2 ^ e + 2 ^ e * 2 * h = omega arith in d, power_add)
+      (near_trans q _ _ _ (near_times q _ _ _ _ minus (power_of_one q (2 ^ e * 2) twice h))
+      times_one)
 
   -- -1 is not 1
   not_one : Near q (minus_one q) (power 0) → ⊥
@@ -63,19 +72,25 @@ module _ (q e : ℕ) (big : 2 < q) (minus : Near q (power (2 ^ e)) (minus_one q)
   odd_case : (t s k h : ℕ) → t + s ≡ e → k ≡ 1 + 2 * h → Near q (power (2 ^ s * k)) (power 0) → ⊥
   odd_case t s k h te ke one =
       let p : 2 ^ e ≡ 2 ^ t * 2 ^ s = ap (λ n. 2 ^ n) (sym te) ∙ pow-add 2 t s in
-      let d : 2 ^ s * k * 2 ^ t ≡ 2 ^ e * (1 + 2 * h) = omega (arith, ap (λ n. n * k) p, ap (λ n. 2 ^ e * n) ke) in
-      not_one (near_trans q _ _ _ (near_sym q _ _ (subst (λ n. Near q (power n) (minus_one q)) (sym d) (odd_power h))) (power_of_one q (2 ^ s * k) one (2 ^ t)))
+      let d : 2 ^ s * k * 2 ^ t ≡ 2 ^ e * (1 + 2 * h) =
+      omega (arith, ap (λ n. n * k) p, ap (λ n. 2 ^ e * n) ke) in
+      not_one (near_trans q _ _ _
+      (near_sym q _ _ (subst (λ n. Near q (power n) (minus_one q)) (sym d) (odd_power h)))
+      (power_of_one q (2 ^ s * k) one (2 ^ t)))
 
   -- no power is 1 whose exponent is 2^s * k, for k above 0 and below 2^(t + 1): by halving k until
   -- it is odd
-  descend : (t s k : ℕ) → t + s ≡ e → 0 < k → k < 2 ^ suc t → Near q (power (2 ^ s * k)) (power 0) → ⊥
+  descend : (t s k : ℕ) → t + s ≡ e → 0 < k → k < 2 ^ suc t → Near q (power (2 ^ s * k)) (power 0)
+      → ⊥
   descend zero s k te pos lt one = elim (parity k) [
     | inl h ↦ (let two : 2 ^ suc 0 ≡ 2 = refl in let d = h.1 in omega (arith, d, two))
     | inr h ↦ odd_case 0 s k h.0 te h.1 one
   ]
   descend (suc t) s k te pos lt one = elim (parity k) [
-    | inl h ↦ descend t (suc s) h.0 (omega arith) (let d = h.1 in omega (arith, d)) (omega (arith, h.1, pow-suc 2 (suc t)))
-        (rw (let d : 2 ^ suc s * h.0 ≡ 2 ^ s * k = omega (arith, ap (λ n. n * h.0) (pow-suc 2 s), ap (λ n. 2 ^ s * n) h.1) in d) one)
+    | inl h ↦ descend t (suc s) h.0 (omega arith) (let d = h.1 in omega (arith, d))
+        (omega (arith, h.1, pow-suc 2 (suc t)))
+        (rw (let d : 2 ^ suc s * h.0 ≡ 2 ^ s * k =
+        omega (arith, ap (λ n. n * h.0) (pow-suc 2 s), ap (λ n. 2 ^ s * n) h.1) in d) one)
     | inr h ↦ odd_case (suc t) s k h.0 te h.1 one
   ]
 

@@ -1,5 +1,6 @@
 -- Different numbers below m are at most m.
-use Rattle.std.proofs.Common.{◌≡◌, ◌≢◌, ℕ, zero, suc, ◌<◌, ◌≤◌, ◌⊎◌, inl, inr, cond, refl, sym, ◌∙◌, arith, eq-eqb}
+use Rattle.std.proofs.Common.{◌≡◌, ◌≢◌, ℕ, zero, suc, ◌<◌, ◌≤◌, ◌⊎◌, inl, inr, cond, refl, sym, ◌∙◌}
+use Rattle.std.proofs.Common.{arith, eq-eqb}
 use Rattle.std.proofs.lemmas.Bool.{cases_eq, ne_eqb}
 use Rattle.std.proofs.Math.Dec.{eqb}
 
@@ -42,6 +43,8 @@ pigeon m zero f below differ = omega arith
 pigeon zero (suc n) f below differ = absurd (let h : f 0 < 0 = below 0 (omega arith) in omega arith)
 pigeon (suc m) (suc n) f below differ =
     let less : n ≤ m = pigeon m n (λ i. swapped m (f n) (f i))
-    (λ i h. swapped_below m (f n) (f i) (below i (omega arith)) (below n (omega arith)) (λ e d. differ i n h (omega arith) (e ∙ sym d)))
-    (λ i j h k. swapped_differ m (f n) (f i) (f j) (differ i j h (omega arith)) (differ i n (omega arith) (omega arith)) (differ j n k (omega arith))) in
+    (λ i h. swapped_below m (f n) (f i) (below i (omega arith)) (below n (omega arith))
+    (λ e d. differ i n h (omega arith) (e ∙ sym d)))
+    (λ i j h k. swapped_differ m (f n) (f i) (f j) (differ i j h (omega arith))
+    (differ i n (omega arith) (omega arith)) (differ j n k (omega arith))) in
     omega arith

@@ -1,5 +1,6 @@
 -- Primes that are settled by trying divisors.
-use Rattle.std.proofs.Common.{◌≡◌, ◌≢◌, ℕ, zero, suc, ◌%◌, ◌<◌, inl, inr, Bool, true, false, ◌&&◌, not, refl, sym, ◌∙◌, ap, arith, lit<, eq-eqb}
+use Rattle.std.proofs.Common.{◌≡◌, ◌≢◌, ℕ, zero, suc, ◌%◌, ◌<◌, inl, inr, Bool, true, false, ◌&&◌}
+use Rattle.std.proofs.Common.{not, refl, sym, ◌∙◌, ap, arith, lit<, eq-eqb}
 use Rattle.std.proofs.lemmas.Bool.{cases_lt, true≢false, false≢true}
 use Rattle.std.proofs.Math.Dec.{eqb}
 use Rattle.sip_field.specs.Prime.{IsPrime}
@@ -26,7 +27,8 @@ unfolding tried
 tried_all p zero t q one less d = omega arith
 tried_all p (suc n) t q one less d = elim (cases_lt q (suc (suc n))) [
   | inl lt ↦ tried_all p n (and_true _ _ t).1 q one lt d
-  | inr le ↦ not_zero _ (and_true _ _ t).0 (ap (λ k. p % k) (let e : suc (suc n) ≡ q = omega arith in e) ∙ d)
+  | inr le ↦ not_zero _ (and_true _ _ t).0
+      (ap (λ k. p % k) (let e : suc (suc n) ≡ q = omega arith in e) ∙ d)
 ]
 
 -- 31 is prime, as trying 2 to 30 shows

@@ -1,5 +1,6 @@
 -- No test of the replies for heavy hitters has the end of the link as its reason.
-use Rattle.std.proofs.Common.{◌≡◌, ◌≢◌, ◌+◌, ℕ, Bool, true, false, ◌&&◌, ◌||◌, not, Result, Ok, Err, List, [], ◌∷◌, ◌++◌, length, refl, ◌∙◌}
+use Rattle.std.proofs.Common.{◌≡◌, ◌≢◌, ◌+◌, ℕ, Bool, true, false, ◌&&◌, ◌||◌, not, Result, Ok, Err}
+use Rattle.std.proofs.Common.{List, [], ◌∷◌, ◌++◌, length, refl, ◌∙◌}
 use Rattle.std.specs.Prelude.{◌==◌, nat_lt, nat_le}
 use Rattle.std.specs.List.{list_all}
 use Rattle.sip_vector.specs.Steps.{◌>>=◌, needs}
@@ -10,7 +11,8 @@ use Rattle.sip_wire.specs.declared.message.Reason.{Reason}
 use Rattle.sip_wire.specs.declared.message.Reason.TheVariants as reasons
 use Rattle.sip_replies.specs.declared.check.More.{More}
 use Rattle.sip_replies.specs.LawProofs.Refusals.{same_err, wrong_kind}
-use Rattle.sip_heavy.specs.AcceptsHeavy.{Asked, most_nodes, is_next, with_nodes, are_pairs, is_empty, pair_counts, end_test, merged, top_test}
+use Rattle.sip_heavy.specs.AcceptsHeavy.{HeavyQuestion, most_nodes, is_next, with_nodes, are_pairs}
+use Rattle.sip_heavy.specs.AcceptsHeavy.{is_empty, pair_counts, end_test, merged, top_test}
 use Rattle.sip_heavy.specs.Protocol.{HeavyAsked, HeavyState, leaf_nodes, nodes_step, heavy_protocol}
 
 -- the end of the link is not the reason of this
@@ -44,7 +46,7 @@ by_then (Err first) f other reason e c = other first refl (same_err first reason
 -- ---- the tests of a frame
 
 -- those of nodes, one after another
-by_nodes : (q : Asked) (level : ℕ) (known before xs : List Node)
+by_nodes : (q : HeavyQuestion) (level : ℕ) (known before xs : List Node)
     → NotClosed (with_nodes q level known before xs)
 by_nodes q level known before [] = by_ok before
 by_nodes q level known before (x ∷ xs) =
@@ -55,7 +57,7 @@ by_nodes q level known before (x ∷ xs) =
     (by_nodes q level known (before ++ x ∷ []) xs)))
 
 -- those of a level's end
-by_end : (q : Asked) (level : ℕ) (nodes : List Node) → NotClosed (end_test q level nodes)
+by_end : (q : HeavyQuestion) (level : ℕ) (nodes : List Node) → NotClosed (end_test q level nodes)
 by_end q level nodes =
     by_needs (are_pairs nodes && (nat_lt (level + 1) q.depth || not (is_empty nodes)))
     reasons.Pairs _ (λ c. absurd cc)
@@ -104,7 +106,7 @@ heavy_tests asked s (messages.Power v) = wrong_kind {X = More × HeavyState}
 
 -- ---- the tests behind the last reply
 
-by_top : (q : Asked) (root : ℕ) (known : List Node) → NotClosed (top_test q root known)
+by_top : (q : HeavyQuestion) (root : ℕ) (known : List Node) → NotClosed (top_test q root known)
 by_top q root [] reason e c = let f = same_err {X = Unit {0}} reasons.Pairs reason e in cc
 by_top q root (x ∷ more) reason e c =
     by_needs (x.count == q.total) reasons.Total _ (λ d. absurd cc)

@@ -1,7 +1,7 @@
 -- How what a helper keeps for a query stands for the query.
 use Rattle.std.specs.Prelude.{◌≡◌, ℕ, ◌<◌, Bool, true, false, List, length, Option, Some, None}
 use Rattle.sip_vector.specs.declared.query.Query.{Query}
-use Rattle.sip_helper.specs.declared.asked.Asked.{Asked}
+use Rattle.sip_helper.specs.declared.asked.QueryUnderWay.{QueryUnderWay}
 use Rattle.sip_helper.specs.declared.asked.Answerer.{Answerer}
 use Rattle.sip_helper.specs.declared.asked.Answerer.TheVariants.{NoMemory, Refused, Honest}
 use Rattle.sip_helper.specs.Vectors.{Vectors}
@@ -28,7 +28,7 @@ IsReady depth None revealed given (Refused query code) = ⊥
 IsReady depth None revealed given (Honest prover) = ⊥
 
 -- the open query that is kept so
-abbrev pub open_of : Asked → OpenQuery
+abbrev pub open_of : QueryUnderWay → OpenQuery
 open_of a =
     record {
       query = query_of a.answerer;
@@ -38,6 +38,6 @@ open_of a =
     }
 
 -- a level is left to reply to, and the reply can be made
-pub record CanReply (depth : ℕ) (vectors : Option Vectors) (a : Asked) : Type 0 where
+pub record CanReply (depth : ℕ) (vectors : Option Vectors) (a : QueryUnderWay) : Type 0 where
   pub left : length a.revealed.items < depth
   pub ready : IsReady depth vectors a.revealed.items a.given a.answerer

@@ -1,6 +1,6 @@
 -- What holds of a helper at every moment.
 use Rattle.std.specs.Prelude.{◌≡◌, ◌≤◌, ℕ, IsTrue, IfSome, Option}
-use Rattle.sip_helper.specs.declared.asked.Asked.{Asked}
+use Rattle.sip_helper.specs.declared.asked.QueryUnderWay.{QueryUnderWay}
 use Rattle.sip_helper.specs.declared.heard.Heard.{Heard}
 use Rattle.sip_helper.specs.declared.heard.Heard.TheVariants.{Nothing, Whole}
 use Rattle.sip_helper.specs.Vectors.{Vectors}
@@ -15,7 +15,7 @@ use Rattle.sip_wire.specs.Versions.{deepest}
 -- The depth is one of the version, no side is too heavy, the vectors are those of the depth and the
 -- weights, and a query is open only behind the stream.
 pub record IsCoherent (version : Version) (heard : Heard) (weights : Weights)
-    (vectors : Option Vectors) (queries : ℕ) (asked : Option Asked) : Type 0 where
+    (vectors : Option Vectors) (queries : ℕ) (asked : Option QueryUnderWay) : Type 0 where
   pub deep : depth_of heard ≤ deepest version
   pub light : IsTrue (is_light weights)
   pub none : heard ≡ Nothing → weights ≡ no_weight

@@ -4,9 +4,9 @@ use Rattle.sip_ports.specs.declared.port.TalkEvent.{TalkEvent}
 use Rattle.sip_ports.specs.Ports.{GoesOn}
 use Rattle.sip_wire.specs.Spelling.{spelling}
 use Rattle.sip_helper.specs.declared.status.HelpStatus.{HelpStatus}
-use Rattle.sip_helper.specs.Rules.{EndsAs, IsTurnBy, Rules, Turn, after_turn_by, turn_talk_by}
+use Rattle.sip_helper.specs.Rules.{EndsAs, IsTurnBy, TurnRules, Turn, after_turn_by, turn_talk_by}
 
-module _ {S : Type 0} (r : Rules S) where
+module _ {S : Type 0} (r : TurnRules S) where
   -- the turn was taken whole, and the talk is not over
   pub record Taken (old new : Option (List TalkEvent)) (s next : S) (got : List ℕ) : Type 0 where
     pub turn : Turn

@@ -1,5 +1,6 @@
 -- No test of a moment's replies has the end of the link as its reason.
-use Rattle.std.proofs.Common.{◌≡◌, ◌≢◌, ℕ, ◌+◌, Bool, true, false, ℤ, List, length, Option, Some, None, Result, Ok, Err}
+use Rattle.std.proofs.Common.{◌≡◌, ◌≢◌, ℕ, ◌+◌, Bool, true, false, ℤ, List, length, Option, Some}
+use Rattle.std.proofs.Common.{None, Result, Ok, Err}
 use Rattle.std.specs.Prelude.{◌==◌}
 use Rattle.sip_vector.specs.Answers.{Answer, number}
 use Rattle.sip_vector.specs.Steps.{◌>>=◌, needs}
@@ -11,7 +12,8 @@ use Rattle.sip_counts.specs.Rounds.{sum_of_ends}
 use Rattle.sip_replies.specs.declared.check.More.{More}
 use Rattle.sip_replies.specs.declared.check.More.TheVariants as mores
 use Rattle.sip_replies.specs.LawProofs.Refusals.{same_err, wrong_kind}
-use Rattle.sip_moments.specs.Protocol.{MomentAsked, MomentState, claim_step, claimed, moment_protocol, power_step}
+use Rattle.sip_moments.specs.Protocol.{MomentAsked, MomentState, claim_step, claimed}
+use Rattle.sip_moments.specs.Protocol.{moment_protocol, power_step}
 
 -- ---- the tests of a frame
 

@@ -1,6 +1,7 @@
 -- What holds of a helper of moments all the time, what a prover says, and how many turns are left
 -- at most.
-use Rattle.std.specs.Prelude.{◌≡◌, ℕ, ◌+◌, ◌-◌, ◌*◌, ◌^◌, ◌<◌, ◌≤◌, ℤ, All, Bool, true, false, IfSome, List, [], ◌∷◌, ◌++◌, length, Option, Some, None, is_none}
+use Rattle.std.specs.Prelude.{◌≡◌, ℕ, ◌+◌, ◌-◌, ◌*◌, ◌^◌, ◌<◌, ◌≤◌, ℤ, All, Bool, true, false}
+use Rattle.std.specs.Prelude.{IfSome, List, [], ◌∷◌, ◌++◌, length, Option, Some, None, is_none}
 use Rattle.sip_field.specs.Moduli.{m61_modulus}
 use Rattle.sip_vector.specs.Limits.{most_depth}
 use Rattle.sip_vector.specs.Vectors.{SideVector}
@@ -9,9 +10,10 @@ use Rattle.sip_wire.specs.declared.message.Message.TheVariants as messages
 use Rattle.sip_helper.specs.Shown.{shown_vector}
 use Rattle.sip_helper.specs.Turns.{HelperState, whole_of}
 use Rattle.sip_helper.specs.inside.Measures.{turns_left}
+use Rattle.sip_wire.specs.Table.{most_queries}
 use Rattle.sip_moments.specs.declared.question.Question.{Question}
 use Rattle.sip_moments.specs.Honest.{Proving, its_polynomial, proving}
-use Rattle.sip_moments.specs.Serving.{MomentHelper, OpenMoment, most_moments}
+use Rattle.sip_moments.specs.Serving.{MomentHelper, OpenMoment}
 use Rattle.sip_moments.specs.Stating.{power_message}
 
 -- the open moment that is kept so: with no prover, memory was refused for it
@@ -46,7 +48,7 @@ pub record CanReply (helper : HelperState) (q : Question) : Type 0 where
 
 -- few moments were asked, no query ever is, and the open moment can be answered
 pub record IsCoherent (helper : HelperState) (asked : ℕ) (question : Option Question) : Type 0 where
-  pub few : asked ≤ most_moments
+  pub few : asked ≤ most_queries
   pub none : helper.open_query ≡ None
   pub ready : IfSome question (CanReply helper)
 
@@ -67,4 +69,4 @@ challenges_left (Some o) = most_depth - 1 - length o.revealed
 -- the turns of the stream, and those of a moment: it and fewer challenges than a talk has levels
 abbrev pub moments_left : MomentHelper → ℕ
 moments_left s =
-    turns_left s.helper + most_depth * (most_moments - s.asked) + challenges_left s.question
+    turns_left s.helper + most_depth * (most_queries - s.asked) + challenges_left s.question

@@ -33,7 +33,8 @@ module _ (wide : Task) (bytes seed : List ℕ) (left : Option (List ℕ)) (old n
   pub record IsHeard (seats : Seating) : Type 0 where
     pub challenges : List ℕ
     pub draws : drawn wide seed ≡ Some challenges
-    pub each : Each (λ _ o n. IsPassedOn wide bytes (blocks wide challenges) left (Some o) (Some n) seats)
+    pub each : Each (λ _ o n. IsPassedOn wide bytes (blocks wide challenges) left (Some o)
+        (Some n) seats)
         old new
 
   -- the seats stand for the stream; or why there are none, and what each helper heard
@@ -43,8 +44,8 @@ module _ (wide : Task) (bytes seed : List ℕ) (left : Option (List ℕ)) (old n
   GathersAll (Err status) =
       Each (λ _ o n. Refuses wide bytes seed (Some o) (Some n) status) old new
 
-  -- The session has all seats; or why there is none, and what each helper heard. A query whose answer
-  -- may be too wide is named by its own number.
+  -- The session has all seats; or why there is none, and what each helper heard. A query whose
+  -- answer may be too wide is named by its own number.
   abbrev pub Begins : ℕ → Result Sitting Status → Type 0
   Begins helpers (Ok session) = (seats : Seating) × IsHeard seats
       × Starts (version_of wide) seats (Ok session)

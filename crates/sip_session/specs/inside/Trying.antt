@@ -1,5 +1,6 @@
 -- What calls did that ask helpers of a panel. (For the proof of `panel` alone.)
-use Rattle.std.specs.Prelude.{◌≡◌, ◌⊎◌, ◌==◌, ◌≤◌, ℕ, suc, List, [], ◌∷◌, ◌++◌, All, Option, Some, slice_get, Result, Ok, Err, if◌then◌else◌}
+use Rattle.std.specs.Prelude.{◌≡◌, ◌⊎◌, ◌==◌, ◌≤◌, ℕ, suc, List, [], ◌∷◌, ◌++◌, All, OnOk, Option}
+use Rattle.std.specs.Prelude.{Some, false, slice_get, Result, Ok, Err, if◌then◌else◌}
 use Rattle.sip_ports.specs.declared.port.TalkEvent.{TalkEvent}
 use Rattle.sip_ports.specs.Ports.{GoesOn, outs}
 use Rattle.sip_replies.specs.Replies.{Fault}
@@ -17,12 +18,33 @@ use Rattle.sip_verifier.specs.runs.Asking.{IsRejected}
 use Rattle.sip_verifier.specs.runs.Manners.{Manner}
 use Rattle.sip_verifier.specs.runs.Progress.{HasNone, Passes, PassesInPart, StaysUnjudged}
 use Rattle.sip_verifier.specs.Questions.{IsUnjudged, IsWaiting, Question, said_for}
-use Rattle.sip_session.specs.declared.asking.At.{At}
-use Rattle.sip_session.specs.declared.asking.Came.{Came}
-use Rattle.sip_session.specs.declared.asking.Came.TheVariants as cames
+use Rattle.sip_verifier.specs.QuerySeats.{StandsFor}
+use Rattle.sip_verifier.specs.Sittings.{Sitting}
+use Rattle.sip_verifier.specs.Snapshots.{counts}
+use Rattle.sip_verifier.specs.Statuses.{Stops, stops_asking}
+use Rattle.sip_session.specs.declared.panel_asking.At.{At}
+use Rattle.sip_session.specs.declared.panel_asking.Came.{Came}
+use Rattle.sip_session.specs.declared.panel_asking.Came.TheVariants as cames
 use Rattle.sip_session.specs.inside.Hearing.{AllTalks, Each}
 use Rattle.sip_session.specs.PanelEnds.{line_of, lines, said_to}
-use Rattle.sip_session.specs.Panels.{Attempt, AreInTurn, IsJudged, Turn, first_turn, rejected, seat_at, turn_behind}
+use Rattle.sip_session.specs.Panels.{Attempt, AreInTurn, IsJudged, Turn, first_turn, rejected}
+use Rattle.sip_session.specs.Panels.{seat_at, turn_behind}
+
+-- ---- what each call keeps that asks
+
+-- The session is in the state `before` and then `now`; the report had failed so often, and so often
+-- then.
+pub record AsksOn {T : Type 0} (before now : Sitting) (faults faulted : ℕ)
+    (result : Result T Status) : Type 0 where
+  -- the seats that are left stand for the same streams
+  pub stands : (stream : List Update) → All (StandsFor before.depth stream) before.left
+      → All (StandsFor now.depth stream) now.left
+  pub version : now.version ≡ before.version
+  pub depth : now.depth ≡ before.depth
+  -- queries may be asked unless the call stopped
+  pub live : OnOk result (now.spent ≡ false)
+  -- a fault of the report comes only where its own count rose, and no link has one
+  pub fault : Stops stops_asking (counts 0 0 0 faults 0) (counts 0 0 0 faulted 0) result
 
 -- ---- one helper
 
@@ -72,8 +94,8 @@ pub record IsSeated (helpers queries : ℕ) (asks : List (Query × List ℕ)) (t
 -- the talks and the report from the first attempt on
 module _ (version : Version) (depth : ℕ) (stream : List Update) (helpers queries : ℕ)
     (asks : List (Query × List ℕ)) (old new : AllTalks) (blank full : Option (List TalkEvent)) where
-  -- the attempts were made in turn, each at its own seat, and were judged; each helper heard its own,
-  -- and then what this says; and this was written
+  -- the attempts were made in turn, each at its own seat, and were judged; each helper heard its
+  -- own, and then what this says; and this was written
   pub record Trail (attempts : List Attempt) (rest : ℕ → List TalkEvent → Type 0)
       (written : List ℕ) : Type 0 where
     pub in_turn : AreInTurn first_turn attempts

@@ -22,7 +22,8 @@ pub fn made_from_7_and_0()
         ∷ 0 ∷ 0 ∷ 0 ∷ 0 ∷ 0 ∷ 0 ∷ 0 ∷ 8 ∷ [] }
 {}
 
-/// A made stream is legal, and no entry of its vectors is negative. Its bytes are read as that stream, to their end.
+/// A made stream is legal, and no entry of its vectors is negative. Its bytes are read as that
+/// stream, to their end.
 pub fn made_streams_are_legal()
     ensures legal { (x count depth : ℕ) → 1 ≤ depth → count ≤ most_made
         → IsLegal depth (made x count depth) }

@@ -1,6 +1,7 @@
 //! How updates are spelled.
 
-ghost use Rattle.std.specs.Prelude.{◌≡◌, ◌≢◌, ◌<◌, ◌≤◌, ◌^◌, ℕ, List, [], ◌∷◌, ◌++◌, None, All, length, codes, pos, negsuc, slice_index, FitsSigned, Ok};
+ghost use Rattle.std.specs.Prelude.{◌≡◌, ◌≢◌, ◌<◌, ◌≤◌, ◌^◌, ℕ, List, [], ◌∷◌, ◌++◌, None, All};
+ghost use Rattle.std.specs.Prelude.{length, codes, pos, negsuc, slice_index, FitsSigned, Ok};
 ghost use Rattle.std.specs.Int.{w64};
 ghost use Rattle.sip_vector.specs.Limits.{most_depth};
 ghost use Rattle.sip_vector.specs.declared.update.Side.TheVariants as sides;
@@ -9,7 +10,8 @@ ghost use Rattle.sip_vector.specs.Streams.{IsLegal};
 ghost use Rattle.sip_stream.specs.declared.form.Form.{Form as AnyForm};
 ghost use Rattle.sip_stream.specs.Layouts.{deepest_in, layout_of, record_size};
 ghost use Rattle.sip_stream.specs.Pieces.{line_said, record_said};
-ghost use Rattle.sip_stream.specs.Records.{fault_at, records, records_from, update_at, update_fault};
+ghost use Rattle.sip_stream.specs.Records.{fault_at, records, records_from, update_at};
+ghost use Rattle.sip_stream.specs.Records.{update_fault};
 ghost use Rattle.sip_stream.specs.Spellings.{all_spelled, line_bytes, record_bytes, spelled};
 
 /// Two records: of an update of either side, one of them with a negative delta.
@@ -41,7 +43,8 @@ pub fn lines_of_two()
         ≡ codes "1 0 -17" ++ 10 ∷ [] }
 {}
 
-/// A record has 13 bytes, and a wide one 17. A line has 39 at most, and its one line feed is its last byte.
+/// A record has 13 bytes, and a wide one 17. A line has 39 at most, and its one line feed is its
+/// last byte.
 pub fn spellings_are_short()
     ensures records { (width : ℕ) (u : AnyUpdate)
         → length (record_bytes width u) ≡ record_size width }
@@ -52,8 +55,9 @@ pub fn spellings_are_short()
         → (text : List ℕ) × (line_bytes u ≡ text ++ 10 ∷ []) × All (λ b. b ≢ 10) text }
 {}
 
-/// A spelling is read as its update, and what stands against it at its place is what stands against the update. Where
-/// the update is legal, the spelling in front of bytes is read as the next record, and then the bytes.
+/// A spelling is read as its update, and what stands against it at its place is what stands against
+/// the update. Where the update is legal, the spelling in front of bytes is read as the next
+/// record, and then the bytes.
 pub fn spellings_are_read()
     ensures update { (form : AnyForm) (u : AnyUpdate) → u.item < 2 ^ deepest_in form
         → FitsSigned w64 u.delta → update_at (layout_of form) (spelled (layout_of form) u) ≡ u }

@@ -1,5 +1,6 @@
 -- No test of a sub-vector's replies has the end of the link as its reason.
-use Rattle.std.proofs.Common.{◌≡◌, ◌≢◌, ℕ, Bool, true, false, ◌&&◌, Result, Ok, Err, List, [], ◌∷◌, ◌++◌, length, refl, ap, ◌∙◌}
+use Rattle.std.proofs.Common.{◌≡◌, ◌≢◌, ℕ, Bool, true, false, ◌&&◌, Result, Ok, Err, List, [], ◌∷◌}
+use Rattle.std.proofs.Common.{◌++◌, length, refl, ap, ◌∙◌}
 use Rattle.std.specs.Prelude.{nat_lt}
 use Rattle.std.specs.List.{list_all}
 use Rattle.sip_vector.specs.declared.update.Entry.{Entry}
@@ -24,8 +25,10 @@ by_tests : (order room : Bool) (r : Result (List Entry) Reason) (reason : Reason
     → (needs order reasons.BadOrder >>= λ _. needs room reasons.TooMany >>= λ _. r) ≡ Err reason
     → reason ≢ reasons.Closed
 by_tests true true r reason rest is c = rest is c
-by_tests true false r reason rest is c = let f = same_err {X = List Entry} reasons.TooMany reason is in cc
-by_tests false room r reason rest is c = let f = same_err {X = List Entry} reasons.BadOrder reason is in cc
+by_tests true false r reason rest is c =
+    let f = same_err {X = List Entry} reasons.TooMany reason is in cc
+by_tests false room r reason rest is c =
+    let f = same_err {X = List Entry} reasons.BadOrder reason is in cc
 
 -- the tests of entries
 by_entries : (lo hi : ℕ) (before es : List Entry) (reason : Reason) → with_entries lo hi before es
@@ -60,13 +63,15 @@ by_flags : (test : Bool) (given : Siblings) (s : Stated) (reason : Reason)
     >>= λ x. Ok (mores.Complete, record s { siblings = s.siblings ++ x ∷ [] })) (Err reason)
     → reason ≢ reasons.Closed
 by_flags true given s reason e c = absurd cc
-by_flags false given s reason e c = let f = same_err {X = More × Stated} reasons.BadFlags reason e in cc
+by_flags false given s reason e c =
+    let f = same_err {X = More × Stated} reasons.BadFlags reason e in cc
 
 -- no frame's test
 pub sub_tests : (asked : SubAsked) (s : Stated) (m : Message) (reason : Reason)
     → (sub_protocol asked).rules.step s m ≡ Err reason → reason ≢ reasons.Closed
 sub_tests asked s
-    (messages.Entries es) reason e = by_frame asked.lo asked.hi s.siblings s.entries es.items reason e
+    (messages.Entries es) reason e =
+    by_frame asked.lo asked.hi s.siblings s.entries es.items reason e
 sub_tests asked s (messages.Siblings left right) reason e =
     by_flags (are_asked (at_level s.siblings asked.lo) (at_level s.siblings asked.hi)
     (record { left = left; right = right })) (record { left = left; right = right }) s reason e
@@ -86,7 +91,8 @@ sub_tests asked s messages.LevelEnd reason e = wrong_kind {X = More × Stated} r
 sub_tests asked s (messages.AskLook code item) reason e = wrong_kind {X = More × Stated} reason e
 sub_tests asked s (messages.Found flag index) reason e = wrong_kind {X = More × Stated} reason e
 sub_tests asked s messages.End reason e = wrong_kind {X = More × Stated} reason e
-sub_tests asked s (messages.AskMoment side degree) reason e = wrong_kind {X = More × Stated} reason e
+sub_tests asked s (messages.AskMoment side degree) reason e =
+    wrong_kind {X = More × Stated} reason e
 sub_tests asked s (messages.Held held) reason e = wrong_kind {X = More × Stated} reason e
 sub_tests asked s (messages.Recall count) reason e = wrong_kind {X = More × Stated} reason e
 sub_tests asked s (messages.Marks v) reason e = wrong_kind {X = More × Stated} reason e

@@ -1,5 +1,6 @@
 -- No test of a sum's replies has the end of the link as its reason.
-use Rattle.std.proofs.Common.{◌≡◌, ◌≢◌, ℕ, Bool, true, false, ℤ, Option, Some, None, Result, Ok, Err}
+use Rattle.std.proofs.Common.{◌≡◌, ◌≢◌, ℕ, Bool, true, false, ℤ, Option, Some, None, Result, Ok}
+use Rattle.std.proofs.Common.{Err}
 use Rattle.std.specs.Prelude.{◌==◌}
 use Rattle.sip_vector.specs.Answers.{Answer, number}
 use Rattle.sip_vector.specs.Steps.{◌>>=◌, needs}
@@ -11,7 +12,8 @@ use Rattle.sip_replies.specs.declared.check.More.{More}
 use Rattle.sip_replies.specs.declared.check.More.TheVariants as mores
 use Rattle.sip_replies.specs.LawProofs.Refusals.{same_err, wrong_kind}
 use Rattle.sip_sums.specs.AcceptsSum.{Coefficients, sum_of_ends}
-use Rattle.sip_sums.specs.Protocol.{SumAsked, SumState, claim_step, claimed, poly_step, sum_protocol}
+use Rattle.sip_sums.specs.Protocol.{SumAsked, SumState, claim_step, claimed, poly_step}
+use Rattle.sip_sums.specs.Protocol.{sum_protocol}
 
 -- ---- the tests of a frame
 
@@ -55,7 +57,8 @@ sum_tests asked s (messages.Entries v) reason e = wrong_kind {X = More × SumSta
 sum_tests asked s (messages.AskLook code item) reason e = wrong_kind {X = More × SumState} reason e
 sum_tests asked s (messages.Found flag index) reason e = wrong_kind {X = More × SumState} reason e
 sum_tests asked s messages.End reason e = wrong_kind {X = More × SumState} reason e
-sum_tests asked s (messages.AskMoment side degree) reason e = wrong_kind {X = More × SumState} reason e
+sum_tests asked s (messages.AskMoment side degree) reason e =
+    wrong_kind {X = More × SumState} reason e
 sum_tests asked s (messages.Held held) reason e = wrong_kind {X = More × SumState} reason e
 sum_tests asked s (messages.Recall count) reason e = wrong_kind {X = More × SumState} reason e
 sum_tests asked s (messages.Marks v) reason e = wrong_kind {X = More × SumState} reason e

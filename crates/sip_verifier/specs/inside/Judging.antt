@@ -1,5 +1,6 @@
 -- What a seat's question needs, and what comes of it. (For the proof of a session's `judge` alone.)
-use Rattle.std.specs.Prelude.{ℕ, ◌*◌, ◌/◌, min, nat_le, Bool, false, List, Option, Some, None, Result, Ok, Err}
+use Rattle.std.specs.Prelude.{ℕ, ◌*◌, ◌/◌, min, nat_le, Bool, false, List, Option, Some, None}
+use Rattle.std.specs.Prelude.{Result, Ok, Err}
 use Rattle.std.specs.List.{list_all}
 use Rattle.sip_vector.specs.declared.query.Query.{Query}
 use Rattle.sip_vector.specs.declared.query.Query.TheVariants.{Sub, Heavy, Share}

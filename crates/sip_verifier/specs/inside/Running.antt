@@ -5,7 +5,8 @@ use Rattle.sip_vector.specs.declared.query.Query.{Query}
 use Rattle.sip_vector.specs.declared.update.Update.{Update}
 use Rattle.sip_verifier.specs.declared.seat.Running.{Running}
 use Rattle.sip_verifier.specs.declared.seat.Running.TheVariants.{Root, Point, Points, AugRoot}
-use Rattle.sip_verifier.specs.QuerySeats.{RunningNumbers, RunsOn, root_is, point_is, points_are, aug_root_is}
+use Rattle.sip_verifier.specs.QuerySeats.{RunningNumbers, RunsOn, root_is, point_is, points_are}
+use Rattle.sip_verifier.specs.QuerySeats.{aug_root_is}
 
 -- their challenges
 abbrev pub block_of : Running → List ℕ

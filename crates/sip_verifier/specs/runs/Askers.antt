@@ -1,14 +1,17 @@
 -- What is seen of what asks the questions of a run, and what its calls did.
-use Rattle.std.specs.Prelude.{◌≡◌, ◌⊎◌, ℕ, Bool, true, false, List, [], ◌∷◌, ◌++◌, map, drop, Option, Some, Result, Ok, Err}
+use Rattle.std.specs.Prelude.{◌≡◌, ◌⊎◌, ℕ, Bool, true, false, List, [], ◌∷◌, ◌++◌, map, drop}
+use Rattle.std.specs.Prelude.{Option, Some, Result, Ok, Err}
 use Rattle.sip_ports.specs.declared.port.TalkEvent.{TalkEvent}
 use Rattle.sip_ports.specs.Ports.{GoesOn, outs}
 use Rattle.sip_vector.specs.Pieces.{cut}
 use Rattle.sip_wire.specs.declared.version.Version.{Version}
+use Rattle.sip_replies.specs.declared.asking.AskStop.{AskStop}
+use Rattle.sip_replies.specs.declared.asking.AskStop.TheVariants as stops
 use Rattle.sip_verifier.specs.declared.asker.Unanswered.{Unanswered}
 use Rattle.sip_verifier.specs.declared.asker.Unanswered.TheVariants as unanswered
 use Rattle.sip_verifier.specs.declared.session.SessionFault.TheVariants as faults
 use Rattle.sip_verifier.specs.Exchanges.{Exchange}
-use Rattle.sip_verifier.specs.Keeping.{AllIsKept, KeepsReplies, WholeIsKept}
+use Rattle.sip_verifier.specs.Keeping.{AllIsKept, FramesAreKept, FrontIsKept, WholeIsKept}
 use Rattle.sip_verifier.specs.runs.Asking.{IsAnswered, IsRejected, IsInterrupted, IsUnrecorded}
 use Rattle.sip_verifier.specs.runs.Manners.{Asking, Manner}
 use Rattle.sip_verifier.specs.runs.Runs.{Run, manner, updates, IsLegalToEnd}
@@ -34,6 +37,14 @@ pub record IsFirst {Q : Type 0} (s : Remaining Q) (ask : Q × List ℕ) : Type 0
   pub more : List (Q × List ℕ)
   pub first : s.left ≡ ask ∷ more
 
+-- why a query has no answer, where the talk about it stopped so
+abbrev pub unanswered_by : AskStop → Unanswered
+unanswered_by (stops.Rejected round reason) = unanswered.Rejected round reason
+unanswered_by stops.PeerFault = unanswered.Fault faults.PeerFault
+unanswered_by stops.KeepFault = unanswered.Fault faults.KeepFault
+unanswered_by stops.OutOfMemory = unanswered.Fault faults.OutOfMemory
+unanswered_by stops.KeepOutOfMemory = unanswered.Fault faults.OutOfMemory
+
 -- it has no verdict, since a call of a port failed
 abbrev pub has_failed : {G : Type 0} → Result G Unanswered → Bool
 has_failed (Err (unanswered.Fault fault)) = true
@@ -46,7 +57,8 @@ behind spent s = record s { left = drop 1 s.left; spent = spent }
 
 -- ---- one query
 
-module _ {Q A : Type 0} (m : Manner Q A) (ask : Q × List ℕ) (old new : Option (List TalkEvent)) where
+module _ {Q A : Type 0} (m : Manner Q A) (ask : Q × List ℕ)
+    (old new : Option (List TalkEvent)) where
   -- the replies are accepted, and what is given states their answer
   pub record IsGiven (States : A → Type 0) : Type 0 where
     pub answer : A
@@ -68,13 +80,14 @@ module _ (old new before now : Option (List TalkEvent)) (version : Version) wher
   abbrev pub KeepsAsked : {G : Type 0} → Result G Unanswered → Type 0
   KeepsAsked (Ok given) = WholeIsKept old new before now version
   KeepsAsked (Err (unanswered.Rejected round reason)) = AllIsKept old new before now
-  KeepsAsked (Err (unanswered.Fault fault)) = KeepsReplies old new before now version (Err fault)
+  KeepsAsked (Err (unanswered.Fault faults.PeerFault)) = FramesAreKept old new before now version
+  KeepsAsked (Err (unanswered.Fault fault)) = FrontIsKept old new before now
 
 -- ---- all queries
 
 -- All queries of a run are left, each with its block. The stream was legal and was read to its end,
--- and the queries may be asked. What is said from `old` to `new` and what is written from `blank` to
--- `full` is the rest of the exchange.
+-- and the queries may be asked. What is said from `old` to `new` and what is written from `blank`
+-- to `full` is the rest of the exchange.
 pub record GoesBehind {Q A : Type 0} (asking : Asking Q A) (r : Run Q) (x : Exchange)
     (s : Remaining Q) (old new blank full : Option (List TalkEvent)) : Type 0 where
   pub version : s.version ≡ r.version

@@ -2,16 +2,15 @@
 --
 -- A verdict comes only where the seed gives challenges, the stream is legal to its end and the
 -- queries may be asked; the queries are refused only where the input is good and they may not be
--- asked; a bad
--- stream only where the seed gives challenges and the stream is not legal to its end, with the
--- number and the fault of the first record that is not legal; a bad seed only where the seed has
--- fewer than 32 bytes, and a spent one only where its 32 bytes do not give the challenges. One of
--- these five holds, so its answer comes, unless a port failed or memory ran out. A fault comes only
--- where the count of faults of that very port rose in this call, and where the steps before it had
--- passed: faults of the link and of the stream only where the seed gives challenges, and so those of
--- the record of the talk; faults of the report only where the stream is legal to its end and the
--- queries may be asked, and so those of the record once anything was said. Want of memory is free.
--- No other answer comes.
+-- asked; a bad stream only where the seed gives challenges and the stream is not legal to its end,
+-- with the number and the fault of the first record that is not legal; a bad seed only where the
+-- seed has fewer than 32 bytes, and a spent one only where its 32 bytes do not give the challenges.
+-- One of these five holds, so its answer comes, unless a port failed or memory ran out. A fault
+-- comes only where the count of faults of that very port rose in this call, and where the steps
+-- before it had passed: faults of the link and of the stream only where the seed gives challenges,
+-- and so those of the record of the talk; faults of the report only where the stream is legal to
+-- its end and the queries may be asked, and so those of the record once anything was said. Want of
+-- memory is free. No other answer comes.
 use Rattle.std.specs.Prelude.{◌≡◌, ◌≢◌, ◌<◌, ◌≤◌, [], length, Some, None}
 use Rattle.sip_stream.specs.Records.{records}
 use Rattle.sip_verifier.specs.declared.status.Port.TheVariants as ports

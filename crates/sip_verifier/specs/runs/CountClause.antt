@@ -1,11 +1,12 @@
 -- Counts.
 --
--- However a helper replies to a query, by what was revealed to it, it has a wrong answer accepted at
--- few of the blocks of challenges. The report is a front of the lines of answers to the run's first
--- queries in order, and perhaps of the line of a rejection behind them. Where an answer in these
--- lines is not the one that the stream's own vectors give, the run's block for that query is among
--- those few, for every helper that replies to this block as the talk shows.
-use Rattle.std.specs.Prelude.{◌≡◌, ◌⊎◌, ℕ, List, [], ◌++◌, map, flat_map, option_to_list, Option, All}
+-- However a helper replies to a query, by what was revealed to it, it has a wrong answer accepted
+-- at few of the blocks of challenges. The report is a front of the lines of answers to the run's
+-- first queries in order, and perhaps of the line of a rejection behind them. Where an answer in
+-- these lines is not the one that the stream's own vectors give, the run's block for that query is
+-- among those few, for every helper that replies to this block as the talk shows.
+use Rattle.std.specs.Prelude.{◌≡◌, ◌⊎◌, ℕ, List, [], ◌++◌, map, flat_map, option_to_list, Option}
+use Rattle.std.specs.Prelude.{All}
 use Rattle.sip_ports.specs.declared.port.TalkEvent.{TalkEvent}
 use Rattle.sip_replies.specs.Talks.{IsPrefix}
 use Rattle.sip_vector.specs.declared.update.Update.{Update}

@@ -1,5 +1,6 @@
 -- How far a run got with its queries once the stream was sent.
-use Rattle.std.specs.Prelude.{◌≡◌, ◌⊎◌, ℕ, suc, List, ◌∷◌, length, map, take, drop, flat_map, Option, Result, Ok, Err}
+use Rattle.std.specs.Prelude.{◌≡◌, ◌⊎◌, ℕ, suc, List, ◌∷◌, length, map, take, drop, flat_map}
+use Rattle.std.specs.Prelude.{Option, Result, Ok, Err}
 use Rattle.sip_ports.specs.declared.port.TalkEvent.{TalkEvent}
 use Rattle.sip_ports.specs.Ports.{GoesOn, outs}
 use Rattle.sip_replies.specs.Talks.{IsPrefix}

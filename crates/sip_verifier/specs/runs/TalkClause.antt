@@ -4,15 +4,15 @@
 -- have a fault, it is the talk up to the last byte that the fault needed, followed by the end of
 -- the link exactly where that is the fault. With an illegal stream it ends before the end of the
 -- stream is sent: the opening, and a frame for each 512 legal records. Where reading the stream
--- failed, it ends before that too. Where the queries are refused, it ends with the end of the stream.
--- With bad words or a bad seed, or where reading the seed failed,
--- nothing is said. With any other answer it is a front of that same talk: so each reply was taken
--- and passed its tests before the next challenge leaves, and the last challenge never leaves; and
--- the line of an accepted query was written before anything is said after its last reply. Where the
--- line of a rejection could not be written whole, the talk is that of the rejection. Where keeping
--- the talk failed, nothing is said yet, or the talk ends with what came of a reply that was not
--- judged.
-use Rattle.std.specs.Prelude.{◌≡◌, ◌≢◌, ◌⊎◌, List, [], ◌∷◌, ◌++◌, length, flat_map, option_to_list, Option, IfSome}
+-- failed, it ends before that too. Where the queries are refused, it ends with the end of the
+-- stream. With bad words or a bad seed, or where reading the seed failed, nothing is said. With any
+-- other answer it is a front of that same talk: so each reply was taken and passed its tests before
+-- the next challenge leaves, and the last challenge never leaves; and the line of an accepted query
+-- was written before anything is said after its last reply. Where the line of a rejection could not
+-- be written whole, the talk is that of the rejection. Where keeping the talk failed, nothing is
+-- said yet, or the talk ends with what came of a reply that was not judged.
+use Rattle.std.specs.Prelude.{◌≡◌, ◌≢◌, ◌⊎◌, List, [], ◌∷◌, ◌++◌, length, flat_map, option_to_list}
+use Rattle.std.specs.Prelude.{Option, IfSome}
 use Rattle.sip_ports.specs.declared.port.TalkEvent.{TalkEvent}
 use Rattle.sip_ports.specs.Ports.{outs}
 use Rattle.sip_replies.specs.Replies.{Fault}
@@ -22,7 +22,8 @@ use Rattle.sip_verifier.specs.declared.status.Status.{Status}
 use Rattle.sip_verifier.specs.declared.status.Status.TheVariants as statuses
 use Rattle.sip_verifier.specs.Exchanges.{Exchange}
 use Rattle.sip_verifier.specs.runs.Manners.{Asking, Question}
-use Rattle.sip_verifier.specs.runs.Runs.{Run, manner, updates, IsLegalToEnd, Done, questions_of, lines, farewell, AreQuestions, Reached}
+use Rattle.sip_verifier.specs.runs.Runs.{Run, manner, updates, IsLegalToEnd, Done, questions_of}
+use Rattle.sip_verifier.specs.runs.Runs.{lines, farewell, AreQuestions, Reached}
 use Rattle.sip_verifier.specs.runs.VerdictClause.{WereReached, EndsUnjudged}
 use Rattle.sip_verifier.specs.Talks.{whole_frames, opening_sent, stream_sent}
 

@@ -4,14 +4,15 @@
 -- accepted and the lines of all queries before were written; and then it is written, unless writing
 -- the report failed or memory ran out. A run is rejected as query k exactly where the replies to k
 -- - 1 queries were accepted and those to query k have that first fault; the line of the rejection
--- is then the last one. Where every query was accepted, the report is all their lines, and the
--- stream was read to its end. Where the link failed, the report is the lines of all queries that
--- were accepted. Where writing the report failed, it is the lines of the queries before the last
--- verdict and a front of the line of that verdict, and nothing was said after it. Where keeping the
--- talk failed, the report is the lines of the queries before the one that was asked last, whose last
--- reply was not judged; or nothing was said yet. Where memory ran out, it is one of the three. Which
--- queries were accepted is read off the talk, so none can be left out.
-use Rattle.std.specs.Prelude.{◌≡◌, ◌⊎◌, ℕ, suc, List, [], ◌∷◌, ◌++◌, length, flat_map, option_to_list, Option, IfSome}
+--   is then the last one. Where every query was accepted, the report is all their lines, and the
+--   stream was read to its end. Where the link failed, the report is the lines of all queries that
+--   were accepted. Where writing the report failed, it is the lines of the queries before the last
+--   verdict and a front of the line of that verdict, and nothing was said after it. Where keeping
+--   the talk failed, the report is the lines of the queries before the one that was asked last,
+--   whose last reply was not judged; or nothing was said yet. Where memory ran out, it is one of
+--   the three. Which queries were accepted is read off the talk, so none can be left out.
+use Rattle.std.specs.Prelude.{◌≡◌, ◌⊎◌, ℕ, suc, List, [], ◌∷◌, ◌++◌, length, flat_map}
+use Rattle.std.specs.Prelude.{option_to_list, Option, IfSome}
 use Rattle.sip_ports.specs.declared.port.TalkEvent.{TalkEvent}
 use Rattle.sip_ports.specs.Ports.{outs}
 use Rattle.sip_replies.specs.Replies.{Fault}
@@ -23,7 +24,8 @@ use Rattle.sip_verifier.specs.declared.status.Status.TheVariants as statuses
 use Rattle.sip_verifier.specs.Exchanges.{Exchange}
 use Rattle.sip_verifier.specs.Reports.{rejection}
 use Rattle.sip_verifier.specs.runs.Manners.{Accepted, Asking, Question}
-use Rattle.sip_verifier.specs.runs.Runs.{Run, manner, updates, Done, questions_of, lines, farewell, Reached}
+use Rattle.sip_verifier.specs.runs.Runs.{Run, manner, updates, Done, questions_of, lines, farewell}
+use Rattle.sip_verifier.specs.runs.Runs.{Reached}
 use Rattle.sip_verifier.specs.Talks.{stream_sent}
 
 module _ {Q A : Type 0} (asking : Asking Q A) (r : Run Q) (x : Exchange) where

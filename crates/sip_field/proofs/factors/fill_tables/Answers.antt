@@ -20,9 +20,9 @@ loop-group-preserved g c =
     let within : k < length tables =
     omega (arith, c.loop-group.invariant.long, c.loop-group-test.true, c.depth.ensures.exact, c.requires) in
     record {
-      long = length-set tables k c.products.result ∙ c.loop-group.invariant.long;
-      below = each_set [] (λ _ t. All (λ x. x < p) t) tables k c.products.result within c.products.ensures.below c.loop-group.invariant.below;
-      products = each_set [] (λ j t. HasProducts p (zero_factor p c.args.factors) (take 7 (drop (7 * j) c.args.seat.now)) t) tables k c.products.result within
+      long = length-set tables k c.products.new.table ∙ c.loop-group.invariant.long;
+      below = each_set [] (λ _ t. All (λ x. x < p) t) tables k c.products.new.table within c.products.ensures.below c.loop-group.invariant.below;
+      products = each_set [] (λ j t. HasProducts p (zero_factor p c.args.factors) (take 7 (drop (7 * j) c.args.seat.now)) t) tables k c.products.new.table within
           c.products.ensures.products c.loop-group.invariant.products;
     }
 

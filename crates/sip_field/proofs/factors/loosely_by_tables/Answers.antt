@@ -1,14 +1,16 @@
-use Rattle.std.proofs.Common.{◌≡◌, ℕ, [], ◌+◌, ◌*◌, ◌/◌, ◌%◌, ◌^◌, ◌<◌, drop, length, sym, ◌∙◌, ap, subst, arith}
+use Rattle.std.proofs.Common.{◌≡◌, ℕ, [], ◌+◌, ◌*◌, ◌/◌, ◌%◌, ◌^◌, ◌<◌, ◌≤◌, drop, get_or, length, refl, sym, ◌∙◌, ap, subst, arith}
+use Rattle.std.proofs.Math.Nat.{mod-mod}
 use Rattle.std.proofs.lemmas.List.{drop_all}
 use Rattle.std.proofs.lemmas.Nat.{mul-mod_first}
 use Rattle.sip_field.specs.Products.{bits_product}
 use Rattle.sip_field.proofs.BitProducts.{one_table, high_part, seven_more}
 use Rattle.sip_field.proofs.factors.loosely_by_tables.Goals as goal
+use Rattle.sip_field.proofs.factors.loosely_by_tables.Goals.{then-group-eq6, else-group-eq6}
 
 pub loop-group-init : goal.loop-group-init
 loop-group-init g c = record {
-  most = omega (arith, c.number-product.ensures, g.met.F.Field.below c.args.start, g.met.F.Field.at_most);
-  is = λ zero challenges are within. (within, ap (λ x. (x * bits_product g.F.Field.MODULUS zero c.args.index challenges) % g.F.Field.MODULUS) c.number-product.ensures);
+  most = λ _. omega (arith, c.requires.most);
+  is = λ zero challenges are within. (within, refl);
 }
 
 pub loop-group-preserved : goal.loop-group-preserved
@@ -16,17 +18,32 @@ loop-group-preserved g c =
     let p : ℕ = g.F.Field.MODULUS in
     let above : 1 < p = omega (arith, g.met.F.Field.at_least) in
     let k : ℕ = c.loop-group.group in
+    let path : ℕ = c.loop-group.path in
+    let u : ℕ = c.loop-group.product in
+    let start : ℕ = c.if-group-eq6.product in
+    let entry : ℕ = get_or (get_or c.args.tables.now k []) (path % 128) 0 in
     let made : ℕ = c.loose_times-product.result in
+    let begun : (start % p ≡ u % p) × (k < 6 → start ≡ u) =
+    elim c.if-group-eq6.branch [
+      | then-group-eq6 w ↦ (
+        ap (λ x. x % p) (w.product-is ∙ w.number-product.ensures ∙ w.of.ensures) ∙ mod-mod u p,
+        λ less. absurd (let none : ⊥ = omega (arith, less, w.if-group-eq6.true) in none),
+      )
+      | else-group-eq6 w ↦ (ap (λ x. x % p) w.product-is, λ less. w.product-is)
+    ] in
+    let times : made % p ≡ (u * entry) % p =
+    c.loose_times-product.ensures.residue ∙ sym (mul-mod_first start entry p) ∙ ap (λ x. (x * entry) % p) begun.0 ∙ mul-mod_first u entry p in
     record {
-      most = omega (arith, c.loose_times-product.ensures.most, c.loop-group.invariant.most);
+      most = λ few.
+          let less : k < 6 = omega (arith, few) in
+          omega (arith, c.loose_times-product.ensures.most, begun.1 less, c.loop-group.invariant.most (omega (arith, less)));
       is = λ zero challenges are within.
           let before = c.loop-group.invariant.is zero challenges are within in
           let here : k < length c.args.tables.now = omega (arith, c.requires.exact, c.loop-group-test.true) in
-          let rest : ℕ = bits_product p zero (c.loop-group.path / 128) (drop (7 * (k + 1)) challenges) in (
-            subst (λ rs. c.loop-group.path / 128 < 2 ^ length rs) (sym (seven_more k challenges)) (high_part 7 c.loop-group.path (drop (7 * k) challenges) before.0),
+          let rest : ℕ = bits_product p zero (path / 128) (drop (7 * (k + 1)) challenges) in (
+            subst (λ rs. path / 128 < 2 ^ length rs) (sym (seven_more k challenges)) (high_part 7 path (drop (7 * k) challenges) before.0),
             sym (mul-mod_first made rest p)
-                ∙ one_table p zero above (g.F.Field.number c.args.start) c.args.index challenges c.args.tables.now k c.loop-group.path c.loop-group.product (made % p) are here before.0
-                c.loose_times-product.ensures.residue before.1,
+                ∙ one_table p zero above c.args.start c.args.index challenges c.args.tables.now k path u (made % p) are here before.0 times before.1,
           );
     }
 

@@ -1,231 +1,127 @@
-use Rattle.std.proofs.Common.{◌≡◌, ℕ, ◌+◌, ◌-◌, List, [], refl, sym, ap, subst, ◌∙◌, arith, length, take}
-use Rattle.std.specs.Option.{option_map}
-use Rattle.std.specs.Prelude.{None, slice_index, IfOk}
-use Rattle.sip_ports.specs.Ports.{GoesOn, outs}
-use Rattle.sip_ports.proofs.FaultLemmas.{Lasts-trans, Lasts-of_HasCause}
-use Rattle.sip_wire.specs.declared.message.Message.TheVariants as messages
+use Rattle.std.proofs.Common.{◌≡◌, true, refl, sym, ap, subst, ◌∙◌, arith}
+use Rattle.std.specs.Prelude.{None, IsTrue}
+use Rattle.sip_ports.proofs.FaultLemmas.{Lasts-refl, Lasts-trans, Lasts-of_HasCause}
 use Rattle.sip_wire.specs.declared.version.Version.{Version}
-use Rattle.sip_wire.specs.Spelling.{spelling}
-use Rattle.sip_replies.specs.declared.check.More.TheVariants as mores
-use Rattle.sip_replies.specs.Protocols.{Phase, Awaits, after}
-use Rattle.sip_replies.specs.Replies.{read_reply}
-use Rattle.sip_replies.specs.Checks.{answered, answer_of}
-use Rattle.sip_replies.specs.Asking.{Takes}
-use Rattle.sip_replies.proofs.Saying.{reveal_fits}
-use Rattle.sip_replies.proofs.Entering.{ending_none}
-use Rattle.sip_replies.proofs.Turns.{Ready, Going, Ready-first, Ready-later, Answers-reply, Going-next}
-use Rattle.sip_replies.proofs.Ending.{IsInterrupted-request, IsInterrupted-reveal, Answers-port, IsAnswered-end, IsRejected-end}
+use Rattle.sip_wire.specs.Spelling.{fits}
+use Rattle.sip_replies.specs.declared.turn.Turn.{Turn}
+use Rattle.sip_replies.specs.Following.{Follows, IsAt, is_due, is_open, left, verdict_of}
+use Rattle.sip_replies.proofs.Ending.{Answers-port}
+use Rattle.sip_replies.proofs.Stepping.{Follows-sent, IsInterrupted-unsent, Answers-verdict, Answers-stop, IsAt-sent, left_sent, open_of, due_of}
 use Rattle.sip_replies.proofs.asking.ask.Given as given
 use Rattle.sip_replies.proofs.asking.ask.Goals as goal
-use Rattle.sip_replies.proofs.asking.ask.Goals.{In_default, In_ok-send, In_ok-send_reveal, After-reveal-challenge, After-take_reply-in-loop-round, After-finish}
+use Rattle.sip_replies.proofs.asking.ask.Goals.{In_default, After-sent}
 
--- the answer isn't known without a reply
-due : (g : given.Over) (c : In_default g) (asked : g.C.Check.Asked) → g.C.Check.stands asked (g.C.Check.protocol asked).rules.start c.args.check.now c.args.places.now → (g.C.Check.protocol asked).unasked ≡ None
-due g c asked stands = sym (c.unasked.ensures asked (g.C.Check.protocol asked).rules.start c.args.places.now stands) ∙ ap (option_map (answer_of c.args.places.now)) c.in_default.is
+pub loop-verdict-init : goal.loop-verdict-init
+loop-verdict-init g c = record {
+  version = c.begin-turn.ensures.version;
+  follows = λ asked same stands. c.begin-turn.ensures.follows asked (g.Q.Request.message c.args.request.now) (g.L.Sink.talk c.args.link.now) (g.K.Sink.talk c.args.keep.now) c.args.places.now same stands;
+  stood = λ asked stands is_open. ((g.C.Check.protocol asked).rules.start, stands);
+  silent = c.begin-turn.ensures.silent;
+  at = λ is_open. c.begin-turn.ensures.at;
+  block = λ is_open. refl;
+  lent = refl;
+  places = refl;
+  link = Lasts-refl g.L.Sink.faults g.L.Sink.wants g.L.Sink.is_sure c.args.link.now;
+  keep = Lasts-refl g.K.Sink.faults g.K.Sink.wants g.K.Sink.is_sure c.args.keep.now;
+}
+
+pub returns-in-Some-clause-answers : goal.returns-in-Some-clause-answers
+returns-in-Some-clause-answers g c asked same stands =
+    let turn = c.loop-verdict.turn in
+    Answers-verdict (g.C.Check.protocol asked) (g.Q.Request.message c.args.request.now) (g.C.Check.phase c.args.check.now).block (λ s. g.C.Check.stands asked s c.loop-verdict.check c.loop-verdict.places)
+    (g.L.Sink.talk c.args.link.now) (g.L.Sink.talk c.loop-verdict.link) (g.K.Sink.talk c.args.keep.now) (g.K.Sink.talk c.loop-verdict.keep) c.loop-verdict.places turn.round turn.stage c.in-Some.verdict (sym c.in-Some.ensures)
+    (c.loop-verdict.invariant.follows asked same stands).at
+
+-- there is no verdict yet
+none : (g : given.Over) (c : In_default g) → verdict_of c.loop-verdict.turn.stage ≡ None
+none g c = sym c.verdict.ensures ∙ c.in_default.is
+
+is_open_now : (g : given.Over) (c : In_default g) → is_open c.loop-verdict.turn.stage ≡ true
+is_open_now g c = open_of c.loop-verdict.turn.stage (none g c)
+
+is_due_now : (g : given.Over) (c : In_default g) → is_due c.loop-verdict.turn.stage ≡ true
+is_due_now g c = due_of c.loop-verdict.turn.stage (none g c) c.loop-verdict.invariant.silent
+
+pub send-requires-clause-due : goal.send-requires-clause-due
+send-requires-clause-due g c = is_due_now g (goal.at.send-requires-clause-due g c).In_default
+
+pub send-requires-clause-below : goal.send-requires-clause-below
+send-requires-clause-below g c = (c.loop-verdict.invariant.at (is_open_now g (goal.at.send-requires-clause-below g c).In_default)).below
+
+pub send-requires-clause-fits : goal.send-requires-clause-fits
+send-requires-clause-fits g c = subst (λ (v : Version). IsTrue (fits v (g.Q.Request.message c.args.request.now))) (sym c.loop-verdict.invariant.version) c.requires.fits
 
 pub returns-in_err-send-clause-answers : goal.returns-in_err-send-clause-answers
 returns-in_err-send-clause-answers g c asked same stands =
+    let at = goal.at.returns-in_err-send-clause-answers g c in
     let P = g.C.Check.protocol asked in
-    let talk = c.in_err-send.ensures.talk in
-    Answers-port P (g.Q.Request.message c.args.request.now) (g.C.Check.phase c.args.check.now).block _ _ _ _ c.args.places.now c.from_residual.result c.in_err-send.field-0.0 c.from_residual.ensures.1
-    (IsInterrupted-request P (due g (goal.at.returns-in_err-send-clause-answers g c).In_default asked stands) (g.Q.Request.message c.args.request.now) (g.C.Check.phase c.args.check.now).block _ _ _ talk.0
-    (subst (λ (v : Version). GoesOn (g.L.Sink.talk c.args.link.now) (g.L.Sink.talk c.send.new.link) (outs (take talk.0 (spelling v (g.Q.Request.message c.args.request.now))))) (sym same) talk.2) c.requires.begins.some)
-
--- what is asked was sent
-first_ready : (g : given.Over) (c : In_ok-send g) (asked : g.C.Check.Asked) → (g.C.Check.protocol asked).rules.version ≡ c.args.version
-    → Ready (g.C.Check.protocol asked) (g.Q.Request.message c.args.request.now) (g.C.Check.phase c.args.check.now).block (g.L.Sink.talk c.args.link.now) (g.L.Sink.talk c.send.new.link) (g.K.Sink.talk c.args.keep.now) (g.K.Sink.talk c.args.keep.now) [] (g.C.Check.protocol asked).rules.start
-first_ready g c asked same = Ready-first (g.C.Check.protocol asked) (g.Q.Request.message c.args.request.now) (g.C.Check.phase c.args.check.now).block _ _ _
-    (subst (λ (v : Version). GoesOn (g.L.Sink.talk c.args.link.now) (g.L.Sink.talk c.send.new.link) (outs (spelling v (g.Q.Request.message c.args.request.now)))) (sym same) c.in_ok-send.ensures.talk) c.requires.begins.some
-
-pub returns-in_err-in_round-clause-answers : goal.returns-in_err-in_round-clause-answers
-returns-in_err-in_round-clause-answers g c asked same stands =
-    let P = g.C.Check.protocol asked in
-    let at = goal.at.returns-in_err-in_round-clause-answers g c in
-    Answers-reply P (due g at.In_default asked stands) (g.Q.Request.message c.args.request.now) (g.C.Check.phase c.args.check.now).block _ _ _ _ _ _ [] P.rules.start (first_ready g at.In_ok-send asked same) 0
-    (λ _ t. g.C.Check.stands asked t c.take_reply.new.check c.take_reply.new.places) c.take_reply.result c.take_reply.new.places
-    c.from_residual-in_err-in_round.result c.in_err-in_round.field-0.0 refl c.from_residual-in_err-in_round.ensures.1 c.in_err-in_round.ensures.same (c.take_reply.ensures.took asked P.rules.start same stands)
-
-pub loop-round-init : goal.loop-round-init
-loop-round-init g c =
-    let at = goal.at.loop-round-init g c in
-    let phase = subst (λ r. IfOk r (λ _. g.C.Check.phase c.take_reply.new.check ≡ after mores.Complete (g.C.Check.phase c.args.check.now))) c.in_ok-in_round.ensures.same c.take_reply.ensures.phase in
-    let some = c.requires.begins.some in
-    let faults = g.L.Sink.faults in
-    let wants = g.L.Sink.wants in
-    let is_sure = g.L.Sink.is_sure in
-    record {
-      going = λ asked same stands.
-          let P = g.C.Check.protocol asked in
-          let took = subst (λ r. Takes P.rules.version (read_reply P.rules P.rules.start) (g.L.Sink.talk c.send.new.link) (g.L.Sink.talk c.take_reply.new.link) (g.K.Sink.talk c.args.keep.now) (g.K.Sink.talk c.take_reply.new.keep)
-          (λ _ t. g.C.Check.stands asked t c.take_reply.new.check c.take_reply.new.places) r) c.in_ok-in_round.ensures.same (c.take_reply.ensures.took asked P.rules.start same stands) in
-          Going-next P (due g at.In_default asked stands) (g.Q.Request.message c.args.request.now) (g.C.Check.phase c.args.check.now).block _ _ _ _ _ _ [] P.rules.start (first_ready g at.In_ok-send asked same) 1
-          (λ t. g.C.Check.stands asked t c.take_reply.new.check c.take_reply.new.places) took.0 (omega arith) took.1 took.2;
-      stood = λ asked stands.
-          subst (λ r. IfOk r (λ _. (t : g.C.Check.State) × g.C.Check.stands asked t c.take_reply.new.check c.take_reply.new.places)) c.in_ok-in_round.ensures.same
-          (c.take_reply.ensures.stands asked (g.C.Check.protocol asked).rules.start stands);
-      block = ap (λ (p : Phase). p.block) phase;
-      taken = ap (λ (p : Phase). p.taken) phase ∙ ap (λ (k : ℕ). k + 1) c.requires.begins.none ∙ omega arith;
-      revealed = ap (λ (p : Phase). p.revealed + 1) phase ∙ ap (λ (k : ℕ). k + 1) c.requires.begins.same ∙ omega arith;
-      within = omega (arith, some);
-      lent = c.take_reply.ensures.lent;
-      places = c.take_reply.ensures.places;
-      link = Lasts-trans faults wants is_sure c.args.link.now c.send.new.link c.take_reply.new.link (Lasts-of_HasCause faults wants is_sure c.args.link.now c.send.new.link c.send.result c.send.ensures.cause) c.take_reply.ensures.link;
-      keep = c.take_reply.ensures.keep;
-    }
-
-pub send_reveal-requires : goal.send_reveal-requires
-send_reveal-requires g c = reveal_fits c.args.version c.reveal-challenge.result c.reveal-challenge.ensures.below
-
--- the challenge that was revealed is that of the replies so far
-challenge_is : (g : given.Over) (c : After-reveal-challenge g) → c.reveal-challenge.result ≡ slice_index (g.C.Check.phase c.args.check.now).block (c.loop-round.round - 1)
-challenge_is g c =
-    let index : (g.C.Check.phase c.loop-round.check).revealed ≡ c.loop-round.round - 1 = omega (arith, c.loop-round.invariant.revealed) in
-    c.reveal-challenge.ensures.challenge
-    ∙ ap (λ (l : List ℕ). slice_index l (g.C.Check.phase c.loop-round.check).revealed) c.loop-round.invariant.block
-    ∙ ap (λ (k : ℕ). slice_index (g.C.Check.phase c.args.check.now).block k) index
-
-pub returns-in_err-send_reveal-clause-answers : goal.returns-in_err-send_reveal-clause-answers
-returns-in_err-send_reveal-clause-answers g c asked same stands =
-    let at = goal.at.returns-in_err-send_reveal-clause-answers g c in
-    let P = g.C.Check.protocol asked in
+    let request = g.Q.Request.message c.args.request.now in
     let block = (g.C.Check.phase c.args.check.now).block in
-    let talk = c.in_err-send_reveal.ensures.talk in
-    let r = challenge_is g at.After-reveal-challenge in
-    Answers-port P (g.Q.Request.message c.args.request.now) block _ _ _ _ c.loop-round.places c.from_residual-in_err-send_reveal.result c.in_err-send_reveal.field-0.0 c.from_residual-in_err-send_reveal.ensures.1
-    (IsInterrupted-reveal P (due g at.In_default asked stands) (g.Q.Request.message c.args.request.now) block _ _ _ _ _ c.loop-round.round (λ s. g.C.Check.stands asked s c.loop-round.check c.loop-round.places) (c.loop-round.invariant.going asked same stands)
-    (omega (arith, c.loop-round-test.true, c.depth-depth.ensures.exact)) talk.0
-    (subst (λ (v : Version). GoesOn (g.L.Sink.talk c.loop-round.link) (g.L.Sink.talk c.send_reveal.new.link) (outs (take talk.0 (spelling v (messages.Reveal (slice_index block (c.loop-round.round - 1))))))) (sym same)
-    (subst (λ (k : ℕ). GoesOn (g.L.Sink.talk c.loop-round.link) (g.L.Sink.talk c.send_reveal.new.link) (outs (take talk.0 (spelling c.args.version (messages.Reveal k))))) r talk.2)))
+    let talk = c.in_err-send.ensures.talk in
+    Answers-port P request block (g.L.Sink.talk c.args.link.now) (g.L.Sink.talk c.send.new.link) (g.K.Sink.talk c.args.keep.now) (g.K.Sink.talk c.loop-verdict.keep) c.loop-verdict.places c.from_residual.result c.in_err-send.field-0.0 c.from_residual.ensures.1
+    (IsInterrupted-unsent P request block (λ s. g.C.Check.stands asked s c.loop-verdict.check c.loop-verdict.places) (g.L.Sink.talk c.args.link.now) (g.L.Sink.talk c.loop-verdict.link) (g.L.Sink.talk c.send.new.link) (g.K.Sink.talk c.args.keep.now) (g.K.Sink.talk c.loop-verdict.keep)
+    c.loop-verdict.places c.loop-verdict.turn (c.loop-verdict.invariant.follows asked same stands) (is_due_now g at.In_default) talk.0 talk.2)
 
-pub reveal-challenge-requires-clause-stood : goal.reveal-challenge-requires-clause-stood
-reveal-challenge-requires-clause-stood g c =
-    let stood = c.loop-round.invariant.stood c.requires.stood.0 c.requires.stood.1 in
-    (c.requires.stood.0, stood.0, c.loop-round.places, stood.1)
-
-pub reveal-challenge-requires-clause-phase : goal.reveal-challenge-requires-clause-phase
-reveal-challenge-requires-clause-phase g c =
-    let block = ap length c.loop-round.invariant.block in
-    record {
-      few = omega (arith, block, c.loop-round.invariant.taken, c.loop-round-test.true, c.depth-depth.ensures.exact);
-      same = omega (arith, c.loop-round.invariant.taken, c.loop-round.invariant.revealed);
-    }
-
-pub take_reply-requires-in-loop-round-clause-stood : goal.take_reply-requires-in-loop-round-clause-stood
-take_reply-requires-in-loop-round-clause-stood g c =
-    let asked = c.requires.stood.0 in
-    let stood = c.loop-round.invariant.stood asked c.requires.stood.1 in
-    (asked, (g.C.Check.protocol asked).rules.learn stood.0 c.reveal-challenge.result, c.reveal-challenge.ensures.learns asked stood.0 c.loop-round.places stood.1)
-
-pub take_reply-requires-in-loop-round-clause-phase : goal.take_reply-requires-in-loop-round-clause-phase
-take_reply-requires-in-loop-round-clause-phase g c =
-    let block = ap length c.loop-round.invariant.block in
-    let phase = c.reveal-challenge.ensures.phase in
-    subst (λ (p : Phase). Awaits p) (sym phase) (record {
-      few = omega (arith, block, c.loop-round.invariant.taken, c.loop-round-test.true, c.depth-depth.ensures.exact);
-      same = omega (arith, c.loop-round.invariant.taken, c.loop-round.invariant.revealed);
-    })
-
--- the challenge was sent
-later_ready : (g : given.Over) (c : In_ok-send_reveal g) (asked : g.C.Check.Asked) (same : (g.C.Check.protocol asked).rules.version ≡ c.args.version)
-    (going : Going (g.C.Check.protocol asked) (g.Q.Request.message c.args.request.now) (g.C.Check.phase c.args.check.now).block (g.L.Sink.talk c.args.link.now) (g.L.Sink.talk c.loop-round.link) (g.K.Sink.talk c.args.keep.now) (g.K.Sink.talk c.loop-round.keep) c.loop-round.round (λ s. g.C.Check.stands asked s c.loop-round.check c.loop-round.places))
-    → Ready (g.C.Check.protocol asked) (g.Q.Request.message c.args.request.now) (g.C.Check.phase c.args.check.now).block (g.L.Sink.talk c.args.link.now) (g.L.Sink.talk c.send_reveal.new.link) (g.K.Sink.talk c.args.keep.now) (g.K.Sink.talk c.loop-round.keep) going.replies
-    ((g.C.Check.protocol asked).rules.learn going.state (slice_index (g.C.Check.phase c.args.check.now).block (c.loop-round.round - 1)))
-later_ready g c asked same going =
-    let r = challenge_is g (goal.at.In_ok-send_reveal g c).After-reveal-challenge in
-    Ready-later (g.C.Check.protocol asked) (g.Q.Request.message c.args.request.now) (g.C.Check.phase c.args.check.now).block _ _ _ _ _ c.loop-round.round (λ s. g.C.Check.stands asked s c.loop-round.check c.loop-round.places) going
-    (subst (λ (v : Version). GoesOn (g.L.Sink.talk c.loop-round.link) (g.L.Sink.talk c.send_reveal.new.link) (outs (spelling v (messages.Reveal (slice_index (g.C.Check.phase c.args.check.now).block (c.loop-round.round - 1)))))) (sym same)
-    (subst (λ (k : ℕ). GoesOn (g.L.Sink.talk c.loop-round.link) (g.L.Sink.talk c.send_reveal.new.link) (outs (spelling c.args.version (messages.Reveal k)))) r c.in_ok-send_reveal.ensures.talk))
-    (omega (arith, c.loop-round-test.true, c.depth-depth.ensures.exact))
-
--- the reply was taken
-later_took : (g : given.Over) (c : After-take_reply-in-loop-round g) (asked : g.C.Check.Asked) (s : g.C.Check.State) → (g.C.Check.protocol asked).rules.version ≡ c.args.version → g.C.Check.stands asked s c.loop-round.check c.loop-round.places
-    → Takes (g.C.Check.protocol asked).rules.version (read_reply (g.C.Check.protocol asked).rules ((g.C.Check.protocol asked).rules.learn s (slice_index (g.C.Check.phase c.args.check.now).block (c.loop-round.round - 1))))
-    (g.L.Sink.talk c.send_reveal.new.link) (g.L.Sink.talk c.take_reply-in-loop-round.new.link) (g.K.Sink.talk c.loop-round.keep) (g.K.Sink.talk c.take_reply-in-loop-round.new.keep)
-    (λ _ t. g.C.Check.stands asked t c.take_reply-in-loop-round.new.check c.take_reply-in-loop-round.new.places) c.take_reply-in-loop-round.result
-later_took g c asked s same stands =
-    let R = (g.C.Check.protocol asked).rules in
-    let r = challenge_is g (goal.at.After-take_reply-in-loop-round g c).After-reveal-challenge in
-    subst (λ (k : ℕ). Takes R.version (read_reply R (R.learn s k)) (g.L.Sink.talk c.send_reveal.new.link) (g.L.Sink.talk c.take_reply-in-loop-round.new.link) (g.K.Sink.talk c.loop-round.keep) (g.K.Sink.talk c.take_reply-in-loop-round.new.keep)
-    (λ _ t. g.C.Check.stands asked t c.take_reply-in-loop-round.new.check c.take_reply-in-loop-round.new.places) c.take_reply-in-loop-round.result) r
-    (c.take_reply-in-loop-round.ensures.took asked (R.learn s c.reveal-challenge.result) same (c.reveal-challenge.ensures.learns asked s c.loop-round.places stands))
-
-pub returns-in_err-in_round-2-clause-answers : goal.returns-in_err-in_round-2-clause-answers
-returns-in_err-in_round-2-clause-answers g c asked same stands =
-    let at = goal.at.returns-in_err-in_round-2-clause-answers g c in
+-- what was due was sent, and a reply is heard
+sent_so : (g : given.Over) (c : After-sent g) (asked : g.C.Check.Asked) → (g.C.Check.protocol asked).rules.version ≡ c.args.version → g.C.Check.stands asked (g.C.Check.protocol asked).rules.start c.args.check.now c.args.places.now
+    → Follows (g.C.Check.protocol asked) (g.Q.Request.message c.args.request.now) (g.C.Check.phase c.args.check.now).block (g.L.Sink.talk c.args.link.now) (g.L.Sink.talk c.send.new.link) (g.K.Sink.talk c.args.keep.now) (g.K.Sink.talk c.loop-verdict.keep)
+    (λ s. g.C.Check.stands asked s c.loop-verdict.check c.loop-verdict.places) c.loop-verdict.places c.sent.new.self
+sent_so g c asked same stands =
+    let at = goal.at.After-sent g c in
     let P = g.C.Check.protocol asked in
-    let going = c.loop-round.invariant.going asked same stands in
-    Answers-reply P (due g at.In_default asked stands) (g.Q.Request.message c.args.request.now) (g.C.Check.phase c.args.check.now).block _ _ _ _ _ _ going.replies _ (later_ready g at.In_ok-send_reveal asked same going) _
-    (λ _ t. g.C.Check.stands asked t c.take_reply-in-loop-round.new.check c.take_reply-in-loop-round.new.places) c.take_reply-in-loop-round.result c.take_reply-in-loop-round.new.places
-    c.from_residual-in_err-in_round-2.result c.in_err-in_round-2.field-0.0 (sym going.counted) c.from_residual-in_err-in_round-2.ensures.1 c.in_err-in_round-2.ensures.same
-    (later_took g at.After-take_reply-in-loop-round asked going.state same going.stands)
+    let request = g.Q.Request.message c.args.request.now in
+    let block = (g.C.Check.phase c.args.check.now).block in
+    let Stands = λ (s : g.C.Check.State). g.C.Check.stands asked s c.loop-verdict.check c.loop-verdict.places in
+    subst (λ (t : Turn). Follows P request block (g.L.Sink.talk c.args.link.now) (g.L.Sink.talk c.send.new.link) (g.K.Sink.talk c.args.keep.now) (g.K.Sink.talk c.loop-verdict.keep) Stands c.loop-verdict.places t) (sym c.sent.ensures)
+    (Follows-sent P request block Stands (g.L.Sink.talk c.args.link.now) (g.L.Sink.talk c.loop-verdict.link) (g.L.Sink.talk c.send.new.link) (g.K.Sink.talk c.args.keep.now) (g.K.Sink.talk c.loop-verdict.keep) c.loop-verdict.places c.loop-verdict.turn
+    (c.loop-verdict.invariant.follows asked same stands) (is_due_now g at.In_default) c.in_ok-send.ensures.talk)
 
-pub loop-round-preserved : goal.loop-round-preserved
-loop-round-preserved g c =
-    let at = goal.at.loop-round-preserved g c in
-    let phase = subst (λ r. IfOk r (λ _. g.C.Check.phase c.take_reply-in-loop-round.new.check ≡ after mores.Complete (g.C.Check.phase c.reveal-challenge.new.self))) c.in_ok-in_round-2.ensures.same c.take_reply-in-loop-round.ensures.phase
-    ∙ ap (λ (p : Phase). after mores.Complete p) c.reveal-challenge.ensures.phase in
-    let faults = g.L.Sink.faults in
-    let wants = g.L.Sink.wants in
-    let is_sure = g.L.Sink.is_sure in
-    record {
-      going = λ asked same stands.
-          let P = g.C.Check.protocol asked in
-          let going = c.loop-round.invariant.going asked same stands in
-          let took = subst (λ r. Takes P.rules.version (read_reply P.rules (P.rules.learn going.state (slice_index (g.C.Check.phase c.args.check.now).block (c.loop-round.round - 1))))
-          (g.L.Sink.talk c.send_reveal.new.link) (g.L.Sink.talk c.take_reply-in-loop-round.new.link) (g.K.Sink.talk c.loop-round.keep) (g.K.Sink.talk c.take_reply-in-loop-round.new.keep)
-          (λ _ t. g.C.Check.stands asked t c.take_reply-in-loop-round.new.check c.take_reply-in-loop-round.new.places) r) c.in_ok-in_round-2.ensures.same
-          (later_took g at.After-take_reply-in-loop-round asked going.state same going.stands) in
-          Going-next P (due g at.In_default asked stands) (g.Q.Request.message c.args.request.now) (g.C.Check.phase c.args.check.now).block _ _ _ _ _ _ going.replies _ (later_ready g at.In_ok-send_reveal asked same going) (c.loop-round.round + 1)
-          (λ t. g.C.Check.stands asked t c.take_reply-in-loop-round.new.check c.take_reply-in-loop-round.new.places) took.0 (ap (λ (k : ℕ). k + 1) going.counted) took.1 took.2;
-      stood = λ asked stands.
-          let stood = c.loop-round.invariant.stood asked stands in
-          subst (λ r. IfOk r (λ _. (t : g.C.Check.State) × g.C.Check.stands asked t c.take_reply-in-loop-round.new.check c.take_reply-in-loop-round.new.places)) c.in_ok-in_round-2.ensures.same
-          (c.take_reply-in-loop-round.ensures.stands asked ((g.C.Check.protocol asked).rules.learn stood.0 c.reveal-challenge.result) (c.reveal-challenge.ensures.learns asked stood.0 c.loop-round.places stood.1));
-      block = ap (λ (p : Phase). p.block) phase ∙ c.loop-round.invariant.block;
-      taken = ap (λ (p : Phase). p.taken) phase ∙ ap (λ (k : ℕ). k + 1) c.loop-round.invariant.taken;
-      revealed = ap (λ (p : Phase). p.revealed + 1) phase ∙ ap (λ (k : ℕ). k + 1) c.loop-round.invariant.revealed;
-      within = omega (arith, c.loop-round-test.true, c.depth-depth.ensures.exact);
-      lent = c.take_reply-in-loop-round.ensures.lent ∙ c.reveal-challenge.ensures.lent ∙ c.loop-round.invariant.lent;
-      places = c.take_reply-in-loop-round.ensures.places ∙ c.loop-round.invariant.places;
-      link = Lasts-trans faults wants is_sure c.args.link.now c.send_reveal.new.link c.take_reply-in-loop-round.new.link
-          (Lasts-trans faults wants is_sure c.args.link.now c.loop-round.link c.send_reveal.new.link c.loop-round.invariant.link
-          (Lasts-of_HasCause faults wants is_sure c.loop-round.link c.send_reveal.new.link c.send_reveal.result c.send_reveal.ensures.cause))
-          c.take_reply-in-loop-round.ensures.link;
-      keep = Lasts-trans g.K.Sink.faults g.K.Sink.wants g.K.Sink.is_sure c.args.keep.now c.loop-round.keep c.take_reply-in-loop-round.new.keep c.loop-round.invariant.keep c.take_reply-in-loop-round.ensures.keep;
-    }
+pub hear-requires-clause-hears : goal.hear-requires-clause-hears
+hear-requires-clause-hears g c = ap (λ (t : Turn). t.stage) c.sent.ensures
 
-pub finish-requires-clause-stood : goal.finish-requires-clause-stood
-finish-requires-clause-stood g c =
-    let stood = c.loop-round.invariant.stood c.requires.stood.0 c.requires.stood.1 in
+pub hear-requires-clause-at : goal.hear-requires-clause-at
+hear-requires-clause-at g c =
+    let phase = g.C.Check.phase c.loop-verdict.check in
+    subst (λ (t : Turn). IsAt t phase) (sym c.sent.ensures) (IsAt-sent c.loop-verdict.turn phase (c.loop-verdict.invariant.at (is_open_now g (goal.at.hear-requires-clause-at g c).In_default)))
+
+pub hear-requires-clause-stood : goal.hear-requires-clause-stood
+hear-requires-clause-stood g c =
+    let stood = c.loop-verdict.invariant.stood c.requires.stood.0 c.requires.stood.1 (is_open_now g (goal.at.hear-requires-clause-stood g c).In_default) in
     (c.requires.stood.0, stood.0, stood.1)
 
--- the tests behind the last reply were those of the state
-ended_so : (g : given.Over) (c : After-finish g) (asked : g.C.Check.Asked) (s : g.C.Check.State) → g.C.Check.stands asked s c.loop-round.check c.loop-round.places
-    → answered c.loop-round.places c.finish.result ≡ (g.C.Check.protocol asked).finish ((g.C.Check.protocol asked).rules.learn s (slice_index (g.C.Check.phase c.args.check.now).block (c.loop-round.round - 1)))
-ended_so g c asked s stands =
-    let P = g.C.Check.protocol asked in
-    let index : (g.C.Check.phase c.loop-round.check).revealed ≡ c.loop-round.round - 1 = omega (arith, c.loop-round.invariant.revealed) in
-    c.finish.ensures.says asked s stands
-    ∙ ap (λ (l : List ℕ). P.finish (P.rules.learn s (slice_index l (g.C.Check.phase c.loop-round.check).revealed))) c.loop-round.invariant.block
-    ∙ ap (λ (k : ℕ). P.finish (P.rules.learn s (slice_index (g.C.Check.phase c.args.check.now).block k))) index
-
-pub returns-in-Ok-clause-answers : goal.returns-in-Ok-clause-answers
-returns-in-Ok-clause-answers g c asked same stands =
-    let at = goal.at.returns-in-Ok-clause-answers g c in
-    let going = c.loop-round.invariant.going asked same stands in
-    IsAnswered-end (g.C.Check.protocol asked) (due g at.In_default asked stands) (g.Q.Request.message c.args.request.now) (g.C.Check.phase c.args.check.now).block _ _ _ _ c.loop-round.round _ going
-    (omega (arith, c.loop-round-test.false, c.depth-depth.ensures.exact, c.loop-round.invariant.within)) c.loop-round.places c.finish.result
-    (ended_so g at.After-finish asked going.state going.stands) c.in-Ok.said c.in-Ok.is
-
-pub returns-in-Err-clause-answers : goal.returns-in-Err-clause-answers
-returns-in-Err-clause-answers g c asked same stands =
-    let at = goal.at.returns-in-Err-clause-answers g c in
-    let P = g.C.Check.protocol asked in
-    let going = c.loop-round.invariant.going asked same stands in
+pub returns-in_err-hear-clause-answers : goal.returns-in_err-hear-clause-answers
+returns-in_err-hear-clause-answers g c asked same stands =
+    let at = goal.at.returns-in_err-hear-clause-answers g c in
+    let request = g.Q.Request.message c.args.request.now in
     let block = (g.C.Check.phase c.args.check.now).block in
-    let ended = ended_so g at.After-finish asked going.state going.stands in
-    let other = g.met.C.Check.ends asked (P.rules.learn going.state (slice_index block (c.loop-round.round - 1))) c.in-Err.reason (sym ended ∙ ap (answered c.loop-round.places) c.in-Err.is) in
-    let rejected = IsRejected-end P (due g at.In_default asked stands) (g.Q.Request.message c.args.request.now) block _ _ _ _ c.loop-round.round _ going
-    (omega (arith, c.loop-round-test.false, c.depth-depth.ensures.exact, c.loop-round.invariant.within)) c.loop-round.places c.finish.result
-    ended c.in-Err.reason other (ending_none c.in-Err.reason other) c.in-Err.is in
-    rw c.depth-depth.ensures.exact rejected
+    Answers-stop (g.C.Check.protocol asked) request block (g.L.Sink.talk c.args.link.now) (g.L.Sink.talk c.hear.new.link) (g.K.Sink.talk c.args.keep.now) (g.K.Sink.talk c.hear.new.keep) c.hear.new.places c.from_residual-in_err-hear.result c.in_err-hear.field-0.0
+    c.from_residual-in_err-hear.ensures.1
+    (c.in_err-hear.ensures.follows asked request block (g.L.Sink.talk c.args.link.now) (g.K.Sink.talk c.args.keep.now) (c.loop-verdict.invariant.block (is_open_now g at.In_default)) (sent_so g at.After-sent asked same stands))
+
+pub loop-verdict-preserved : goal.loop-verdict-preserved
+loop-verdict-preserved g c =
+    let at = goal.at.loop-verdict-preserved g c in
+    let open_before = is_open_now g at.In_default in
+    let faults = g.L.Sink.faults in
+    let wants = g.L.Sink.wants in
+    let is_sure = g.L.Sink.is_sure in
+    record {
+      version = c.hear.ensures.version ∙ ap (λ (t : Turn). t.version) c.sent.ensures ∙ c.loop-verdict.invariant.version;
+      follows = λ asked same stands. c.in_ok-hear.ensures.follows asked (g.Q.Request.message c.args.request.now) (g.C.Check.phase c.args.check.now).block (g.L.Sink.talk c.args.link.now) (g.K.Sink.talk c.args.keep.now)
+          (c.loop-verdict.invariant.block open_before) (sent_so g at.After-sent asked same stands);
+      stood = λ asked stands open_now. let stood = c.loop-verdict.invariant.stood asked stands open_before in c.in_ok-hear.ensures.stands asked stood.0 stood.1 open_now;
+      silent = c.in_ok-hear.ensures.silent;
+      at = c.in_ok-hear.ensures.at;
+      block = λ open_now. c.in_ok-hear.ensures.block open_now ∙ c.loop-verdict.invariant.block open_before;
+      lent = c.hear.ensures.lent ∙ c.loop-verdict.invariant.lent;
+      places = c.hear.ensures.places ∙ c.loop-verdict.invariant.places;
+      link = Lasts-trans faults wants is_sure c.args.link.now c.send.new.link c.hear.new.link
+          (Lasts-trans faults wants is_sure c.args.link.now c.loop-verdict.link c.send.new.link c.loop-verdict.invariant.link (Lasts-of_HasCause faults wants is_sure c.loop-verdict.link c.send.new.link c.send.result c.send.ensures.cause)) c.hear.ensures.link;
+      keep = Lasts-trans g.K.Sink.faults g.K.Sink.wants g.K.Sink.is_sure c.args.keep.now c.loop-verdict.keep c.hear.new.keep c.loop-verdict.invariant.keep c.hear.ensures.keep;
+    }
+
+pub loop-verdict-smaller : goal.loop-verdict-smaller
+loop-verdict-smaller g c =
+    let before = ap left c.sent.ensures ∙ left_sent c.loop-verdict.turn (is_due_now g (goal.at.loop-verdict-smaller g c).In_default) in
+    let nearer = c.in_ok-hear.ensures.nearer in
+    omega (arith, before, nearer)

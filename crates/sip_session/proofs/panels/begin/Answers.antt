@@ -21,8 +21,8 @@ returns-in_err-gather_all-clause-fault g c =
     let stops = c.in_err-gather_all.ensures.fault in
     rw (p.1, p.2) (gathering_listed c.in_err-gather_all.field-0.0 stops.0, stops.1)
 
-pub open-requires : goal.open-requires
-open-requires g c =
+pub open_session-requires : goal.open_session-requires
+open_session-requires g c =
     let most : c.args.wide.now.depth ≤ most_depth =
     omega (arith, c.get-levels.ensures.same, c.get-levels.ensures.most) in
     gathered-speak c.args.wide.now.depth _ c.version.result c.gather_all.new.gathered most

@@ -61,6 +61,7 @@ loop-entry-preserved g c =
     let sum : ℕ = g.F.Field.number c.moved_to-sums.result.sum in
     let near : ℕ = c.moved_to-sums.result.near in
     let x : ℕ = c.from.result in
+    let v : ℕ = c.loose_signed-value.result in
     let more : x < 2 ^ 64 = omega (arith, c.from.ensures, c.loosely_by_tables.type_inv) in
     record {
       most = omega (arith, more, c.moved_to-sums.ensures.near, c.loop-entry.invariant.most);
@@ -81,8 +82,8 @@ loop-entry-preserved g c =
           product ∙ weight_is_product p place challenges ∙ ap (λ i. node_weight p i challenges) same in
           let term : x % p ≡ (r * a) % p =
           ap (λ y. y % p) c.from.ensures ∙ c.loosely_by_tables.ensures zero front below short inside
-          ∙ ap (λ q. (g.F.Field.number c.of_signed-value.result * bits_product p zero q front) % p) low
-          ∙ ap (λ y. (y * a) % p) (c.of_signed-value.ensures ∙ ap (residue p) kept) in
+          ∙ ap (λ q. (v * bits_product p zero q front) % p) low
+          ∙ sym (mul-mod_first v a p) ∙ ap (λ y. (y * a) % p) (c.loose_signed-value.ensures.residue ∙ ap (residue p) kept) in
           let new : ℕ = (sum + (near + x) * b) % p in
           let made : new ≡ ((sum + near * b) % p + (r * ((a * b) % p)) % p) % p = near_more p sum near b a r x term in (
             subst (λ q. q < 2 ^ length rest) (sym path_is) (high_part n place challenges within),

@@ -32,7 +32,7 @@ returns-in-Ok-judged-clause-audits g c = λ asks a before now says t fault.
     let r = c.replay_lent-ended.result.0 in
     let lent : c.deref_mut.result.now ≡ c.in-Ok.session.value = search rules in
     let begun = c.in-Ok.ensures.begins a.stream t.stream in
-    let rp = replayed_as lent c.deref-2.ensures.0 (c.replay_lent-ended.ensures.replays t.behind t.had) in
+    let rp = replayed_as lent (c.replay_lent-ended.ensures.replays t.behind t.had) in
     let come : judged r ≡ Ok c.in-Ok-judged.verdict = sym c.judged.ensures ∙ c.in-Ok-judged.is in
     with_verdict c.args.form a before now
     (its_replay head.version task c.deref.result.now asks is a t.behind t.stored before now c.in-Ok.session.value _ _ c.replay_lent-ended.result.1 _ _ r t.unread t.report begun rp)
@@ -51,7 +51,7 @@ returns-in-Ok-judged-clause-wrote g c = λ some.
     let lent : c.deref_mut.result.now ≡ c.in-Ok.session.value = search rules in
     let begun = c.in-Ok.ensures.begins bytes.0 bytes.1 in
     let left = seats_left _ _ _ _ begun.seats _ c.in-Ok.session.value begun.stand begun.starts in
-    c.replay_lent-ended.ensures.wrote (records c.args.head.depth c.args.form bytes.0).legal (rw lent (left.0 ∙ sym c.deref-2.ensures.0)) (rw lent left.1)
+    c.replay_lent-ended.ensures.wrote (records c.args.head.depth c.args.form bytes.0).legal (rw lent left.1)
 
 pub returns-in-Ok-judged-clause-fault : goal.returns-in-Ok-judged-clause-fault
 returns-in-Ok-judged-clause-fault g c = λ peer peers keep keeps.
@@ -68,7 +68,7 @@ returns-clause-audits g c = λ asks a before now says t fault.
     let r = c.replay_lent-ended.result.0 in
     let lent : c.deref_mut.result.now ≡ c.in-Ok.session.value = search rules in
     let begun = c.in-Ok.ensures.begins a.stream t.stream in
-    let rp = replayed_as lent c.deref-2.ensures.0 (c.replay_lent-ended.ensures.replays t.behind t.had) in
+    let rp = replayed_as lent (c.replay_lent-ended.ensures.replays t.behind t.had) in
     no_verdict c.args.form a before now
     (its_replay head.version task c.deref.result.now asks is a t.behind t.stored before now c.in-Ok.session.value _ _ c.replay_lent-ended.result.1 _ _ r t.unread t.report begun rp)
     0 0 0 0 _ _ _ _ r c.in-Err-judged.status (sym c.judged.ensures ∙ c.in-Err-judged.is) (c.replay_lent-ended.ensures.fault 0 0 0 0)
@@ -80,7 +80,7 @@ returns-clause-wrote g c = λ some.
     let lent : c.deref_mut.result.now ≡ c.in-Ok.session.value = search rules in
     let begun = c.in-Ok.ensures.begins bytes.0 bytes.1 in
     let left = seats_left _ _ _ _ begun.seats _ c.in-Ok.session.value begun.stand begun.starts in
-    c.replay_lent-ended.ensures.wrote (records c.args.head.depth c.args.form bytes.0).legal (rw lent (left.0 ∙ sym c.deref-2.ensures.0)) (rw lent left.1)
+    c.replay_lent-ended.ensures.wrote (records c.args.head.depth c.args.form bytes.0).legal (rw lent left.1)
 
 pub returns-clause-fault : goal.returns-clause-fault
 returns-clause-fault g c = λ peer peers keep keeps.

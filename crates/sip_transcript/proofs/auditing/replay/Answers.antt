@@ -8,7 +8,7 @@ use Rattle.sip_transcript.proofs.auditing.replay.Goals as goal
 
 pub returns-clause-replays : goal.returns-clause-replays
 returns-clause-replays g c = λ bytes told.
-    let talk = link_talk c.conclude-ended.new.peer in
+    let talk = link_talk c.conclude_session-ended.new.peer in
     let out = replays_told g.O.Origin.first (g.T.Loan.left c.into_source.result) bytes talk (sym c.requires.first ∙ told) c.into_source.ensures.replays in
     record {
       talk = talk;
@@ -16,7 +16,7 @@ returns-clause-replays g c = λ bytes told.
       is_left = out.1;
       follows = out.2;
       counted = c.taken-taken.ensures;
-      ends = λ i x before now same goes fault.
-          c.conclude-ended.ensures.ends i x before now same
-          (subst (λ (t : List TalkEvent). GoesBehind i x c.args.session.now (Some t) (Some talk) (g.K.Sink.talk c.args.report.now) (g.K.Sink.talk c.conclude-ended.new.report)) (sym c.new-link.ensures.talk) goes) fault;
+      ends = λ i x before now goes fault.
+          c.conclude_session-ended.ensures.ends i x before now
+          (subst (λ (t : List TalkEvent). GoesBehind i x c.args.session.now (Some t) (Some talk) (g.K.Sink.talk c.args.report.now) (g.K.Sink.talk c.conclude_session-ended.new.report)) (sym c.new-link.ensures.talk) goes) fault;
     }

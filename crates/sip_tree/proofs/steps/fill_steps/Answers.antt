@@ -16,29 +16,29 @@ pub loop-group-init : goal.loop-group-init
 loop-group-init g c =
     let p : ℕ = g.F.Field.MODULUS in
     let tables : List (List Step) = c.args.tables.now in
-    let table : List Step = c.steps.new.table in
+    let table : List Step = c.level_steps.new.table in
     record {
       some = omega arith;
       long = length-set tables 0 table ∙ c.told-tables;
-      below = All-set (All (IsBelow p)) tables 0 table c.steps.ensures.below c.requires.residues;
+      below = All-set (All (IsBelow p)) tables 0 table c.level_steps.ensures.below c.requires.residues;
       steps = each_set [] (λ j t. HasSteps p (start_of j) (take 7 (drop (7 * j) c.args.seat.now)) t) tables 0 table (omega (arith, c.told-tables))
-          c.steps.ensures.steps (λ k none. absurd (let no : ⊥ = omega (arith, none) in no));
+          c.level_steps.ensures.steps (λ k none. absurd (let no : ⊥ = omega (arith, none) in no));
     }
 
 pub loop-group-preserved : goal.loop-group-preserved
 loop-group-preserved g c =
     let p : ℕ = g.F.Field.MODULUS in
     let tables : List (List Step) = c.loop-group.tables in
-    let table : List Step = c.steps-in-loop-group.new.table in
+    let table : List Step = c.level_steps-in-loop-group.new.table in
     let k : ℕ = c.loop-group.group in
     let within : k < length tables =
     omega (arith, c.loop-group.invariant.long, c.loop-group-test.true, few_tables _ _ (omega (arith, c.depth.ensures.exact, c.requires.depth)) c.saturating_sub.ensures) in
     record {
       some = omega arith;
       long = length-set tables k table ∙ c.loop-group.invariant.long;
-      below = All-set (All (IsBelow p)) tables k table c.steps-in-loop-group.ensures.below c.loop-group.invariant.below;
+      below = All-set (All (IsBelow p)) tables k table c.level_steps-in-loop-group.ensures.below c.loop-group.invariant.below;
       steps = each_set [] (λ j t. HasSteps p (start_of j) (take 7 (drop (7 * j) c.args.seat.now)) t) tables k table within
-          (subst (λ s. HasSteps p s (take 7 (drop (7 * k) c.args.seat.now)) table) (sym (later_start k c.loop-group.invariant.some)) c.steps-in-loop-group.ensures.steps)
+          (subst (λ s. HasSteps p s (take 7 (drop (7 * k) c.args.seat.now)) table) (sym (later_start k c.loop-group.invariant.some)) c.level_steps-in-loop-group.ensures.steps)
           c.loop-group.invariant.steps;
     }
 

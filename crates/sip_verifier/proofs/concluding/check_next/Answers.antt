@@ -1,7 +1,8 @@
 -- A line that could not be written whole, that of a rejection, and the line of an answer.
-use Rattle.std.proofs.Common.{refl}
+use Rattle.std.proofs.Common.{Err, refl}
 use Rattle.std.proofs.lemmas.Result.{err_from_is_err_and}
-use Rattle.sip_verifier.proofs.KeptQueries.{fault_kept, line_kept, rejection_kept}
+use Rattle.sip_verifier.proofs.KeptChecks.{line_keeps, rejected_keeps, unjudged_keeps}
+use Rattle.sip_verifier.proofs.KeptQueries.{line_kept, rejection_kept}
 use Rattle.sip_verifier.proofs.QueriesChecked.{fault_checked, line_checked, rejection_cut}
 use Rattle.sip_verifier.proofs.concluding.check_next.Goals as goal
 
@@ -34,19 +35,34 @@ returns-in-Err-Fault-clause-checks g c = λ stream ask stands first.
     let asks = rw (c.in-Err-Fault.is, c.in-Err-Fault.field-0-is) at (c.ask_next.ensures.asks stream ask stands first) in
     rw c.status_of_fault.ensures (fault_checked (g.Q.Asker.asking s.version s.depth stream) ask _ _ _ _ (λ given. g.Q.Asker.states c.ask_next.new.self given ask.0) c.in-Err-Fault.fault asks)
 
-pub returns-in_err-on_report-in-Err-Rejected-clause-kept :
-    goal.returns-in_err-on_report-in-Err-Rejected-clause-kept
-returns-in_err-on_report-in-Err-Rejected-clause-kept g c =
+-- ---- what is kept
+
+pub returns-in_err-on_report-in-Err-Rejected-clause-keeps :
+    goal.returns-in_err-on_report-in-Err-Rejected-clause-keeps
+returns-in_err-on_report-in-Err-Rejected-clause-keeps g c =
+    let v = (g.Q.Asker.remaining c.args.asker.now).version in
     let p = err_from_is_err_and c.from_residual.result c.from_residual.ensures.1 in
-    rw (p.1, p.2) (rejection_kept _ _ _ _ (g.Q.Asker.remaining c.args.asker.now).version c.write_rejection.result c.in_err-on_report-in-Err-Rejected.field-0.0 (rw (c.in-Err-Rejected.is, c.in-Err-Rejected.field-0-is) at c.ask_next.ensures.kept) (rw c.in_err-on_report-in-Err-Rejected.was at c.on_report-in-Err-Rejected.ensures))
+    let on = rw c.in_err-on_report-in-Err-Rejected.was at c.on_report-in-Err-Rejected.ensures in
+    let asked = rw (c.in-Err-Rejected.is, c.in-Err-Rejected.field-0-is) at c.ask_next.ensures.keeps in
+    let cause = c.write_rejection.ensures.cause in
+    rw (p.1, p.2) (line_keeps v _ _ _ _ _ _ c.write_rejection.result (Err c.in_err-on_report-in-Err-Rejected.field-0.0) on cause.failed cause.wanted
+    (rejection_kept _ _ _ _ v c.write_rejection.result c.in_err-on_report-in-Err-Rejected.field-0.0 asked.kept on))
 
-pub returns-in_ok-on_report-in-Err-Rejected-clause-kept :
-    goal.returns-in_ok-on_report-in-Err-Rejected-clause-kept
-returns-in_ok-on_report-in-Err-Rejected-clause-kept g c = rw (c.in-Err-Rejected.is, c.in-Err-Rejected.field-0-is) at c.ask_next.ensures.kept
+pub returns-in_ok-on_report-in-Err-Rejected-clause-keeps :
+    goal.returns-in_ok-on_report-in-Err-Rejected-clause-keeps
+returns-in_ok-on_report-in-Err-Rejected-clause-keeps g c =
+    let asked = rw (c.in-Err-Rejected.is, c.in-Err-Rejected.field-0-is) at c.ask_next.ensures.keeps in
+    rejected_keeps (g.Q.Asker.remaining c.args.asker.now).version _ _ _ _ _ _ c.args.number c.in-Err-Rejected.round c.in-Err-Rejected.reason asked.kept
 
-pub returns-in-Ok-clause-kept : goal.returns-in-Ok-clause-kept
-returns-in-Ok-clause-kept g c = line_kept _ _ _ _ (g.Q.Asker.remaining c.args.asker.now).version c.write_line.result c.on_report.result (rw c.in-Ok.is at c.ask_next.ensures.kept) c.on_report.ensures
+pub returns-in-Ok-clause-keeps : goal.returns-in-Ok-clause-keeps
+returns-in-Ok-clause-keeps g c =
+    let v = (g.Q.Asker.remaining c.args.asker.now).version in
+    let asked = rw c.in-Ok.is at c.ask_next.ensures.keeps in
+    let cause = c.write_line.ensures.cause in
+    line_keeps v _ _ _ _ _ _ c.write_line.result c.on_report.result c.on_report.ensures cause.failed cause.wanted
+    (line_kept _ _ _ _ v c.write_line.result c.on_report.result asked.kept c.on_report.ensures)
 
-pub returns-in-Err-Fault-clause-kept : goal.returns-in-Err-Fault-clause-kept
-returns-in-Err-Fault-clause-kept g c =
-    rw c.status_of_fault.ensures (fault_kept _ _ _ _ (g.Q.Asker.remaining c.args.asker.now).version c.in-Err-Fault.fault (rw (c.in-Err-Fault.is, c.in-Err-Fault.field-0-is) at c.ask_next.ensures.kept))
+pub returns-in-Err-Fault-clause-keeps : goal.returns-in-Err-Fault-clause-keeps
+returns-in-Err-Fault-clause-keeps g c =
+    let asked = rw (c.in-Err-Fault.is, c.in-Err-Fault.field-0-is) at c.ask_next.ensures.keeps in
+    rw c.status_of_fault.ensures (unjudged_keeps (g.Q.Asker.remaining c.args.asker.now).version _ _ _ _ _ _ c.in-Err-Fault.fault asked)

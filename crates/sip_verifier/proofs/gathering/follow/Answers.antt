@@ -71,19 +71,30 @@ returns-in_err-update-clause-passes_on g c = λ bytes at_blocks all has.
     let reads = rw (c.loop-update.invariant.depth, c.loop-update.invariant.form, stop) at (c.next.ensures.reads so.stream so.rest so.after so.to_come) in
     rw (p.1, p.2, is) (reading_stops _ bytes _ _ at_blocks has _ _ _ _ _ _ fault so reads)
 
-pub pass_on-requires-clause-fits : goal.pass_on-requires-clause-fits
-pass_on-requires-clause-fits g c =
+pub pass_on-requires-clause-next : goal.pass_on-requires-clause-next
+pass_on-requires-clause-next g c =
     let task = c.args.task.now in
     let most : task.depth ≤ most_depth = search rules in
     let item : c.in-Some.update.item < 2 ^ task.depth = search rules in
     let small = item_below (version_of task) task.depth c.in-Some.update.item (depth-shallow task.depth task.queries.items most) item in
-    subst (λ (v : Version). c.in-Some.update.item < 256 ^ index_width v) (sym c.loop-update.invariant.version) small
+    let had = c.loop-update.invariant.seats in
+    let after = rw (c.in_ok-update.ensures, c.in-Some.is) at (c.next.ensures.after (had.sent ++ c.loop-update.feed.waiting) had.after) in
+    let depth : c.next.new.self.depth ≡ task.depth = search rules in
+    record {
+      few = search rules;
+      fits = subst (λ (v : Version). c.in-Some.update.item < 256 ^ index_width v) (sym c.loop-update.invariant.version) small;
+      delta = search rules;
+      item = search rules;
+      items = search rules;
+      room = followed_room task c.next.new.self c.loop-update.seats _
+          (followed_one task c.loop-update.reader c.next.new.self c.loop-update.seats c.loop-update.feed.waiting c.in-Some.update had after) depth;
+    }
 
 pub take_held-requires-clause-shallow : goal.take_held-requires-clause-shallow
 take_held-requires-clause-shallow g c =
     let task = c.args.task.now in
     let most : task.depth ≤ most_depth = search rules in
-    let version : c.pass_on.new.feed.version ≡ version_of task = c.pass_on.ensures.version ∙ c.loop-update.invariant.version in
+    let version : c.pass_on.new.feed.version ≡ version_of task = c.pass_on.ensures.takes.version ∙ c.loop-update.invariant.version in
     let depth : c.next.new.self.depth ≡ task.depth = c.next.ensures.depth ∙ c.loop-update.invariant.depth in
     subst (λ (v : Version). c.next.new.self.depth ≤ deepest v) (sym version) (subst (λ n. n ≤ deepest (version_of task)) (sym depth) (depth-shallow task.depth task.queries.items most))
 
@@ -99,7 +110,7 @@ loop-update-preserved g c =
     let depth : c.next.new.self.depth ≡ task.depth = c.next.ensures.depth ∙ c.loop-update.invariant.depth in
     let form : c.next.new.self.form ≡ task.form = c.next.ensures.form ∙ c.loop-update.invariant.form in
     let passed : All (λ (u : Update). u.item < 2 ^ task.depth) c.pass_on.new.feed.waiting =
-    subst (λ n. All (λ (u : Update). u.item < 2 ^ n) c.pass_on.new.feed.waiting) c.loop-update.invariant.levels (rw c.in_ok-on_link-2.ensures at c.pass_on.ensures.items) in
+    subst (λ n. All (λ (u : Update). u.item < 2 ^ n) c.pass_on.new.feed.waiting) c.loop-update.invariant.levels (rw c.in_ok-on_link-2.ensures at c.pass_on.ensures.takes.items) in
     let more : All (λ (u : Update). u.item < 2 ^ task.depth) took.0 = subst (λ n. All (λ (u : Update). u.item < 2 ^ n) took.0) depth (fair_items c.next.new.self.depth took.0 took.3.fair) in
     let ready : c.next.new.self.is_spent ≡ false = search rules in
     let unspent : c.pass_on.new.feed.is_spent ≡ false = search rules in
@@ -109,22 +120,22 @@ loop-update-preserved g c =
           let reads = rw (c.loop-update.invariant.depth, c.loop-update.invariant.form, c.in_ok-update.ensures, c.in-Some.is) at (c.next.ensures.reads so.stream so.rest so.after so.to_come) in
           let after = rw (c.in_ok-update.ensures, c.in-Some.is) at (c.next.ensures.after so.stream so.after) in
           let moved = rw c.in_ok-on_link-2.ensures at (one_more (version_of c.args.task.now) _ _ _ _ so.stream _ c.in-Some.update so.said c.pass_on.result (rw c.loop-update.invariant.version at c.pass_on.ensures.talk)) in
-          let waiting = rw c.in_ok-on_link-2.ensures at c.pass_on.ensures.waiting in
-          let stand = subst (λ l. AreSeats c.args.task.now.depth c.args.task.now.queries.items at_blocks l c.pass_on.new.seats) (sym moved.longer) (c.pass_on.ensures.stands _ _ _ so.said.sent so.stand) in
+          let waiting = rw c.in_ok-on_link-2.ensures at c.pass_on.ensures.takes.waiting in
+          let stand = subst (λ l. AreSeats c.args.task.now.depth c.args.task.now.queries.items at_blocks l c.pass_on.new.seats) (sym moved.longer) (c.pass_on.ensures.takes.stands _ _ _ so.said.sent so.stand) in
           let next = subst (IsUnderway c.args.task.now bytes at_blocks _ _ _ _ _) (sym waiting)
           (goes_on _ bytes _ _ at_blocks has _ _ _ _ _ _ _ _ _ _ c.in-Some.update so reads after moved.said stand) in
           goes_on_many _ bytes _ _ at_blocks has _ _ _ _ _ _ _ _ _ _ next depth form took.3 took.4 took.2 c.take_held.ensures.few;
       seats = (let had = c.loop-update.invariant.seats in
           let after = rw (c.in_ok-update.ensures, c.in-Some.is) at (c.next.ensures.after (had.sent ++ c.loop-update.feed.waiting) had.after) in
-          let waiting = rw c.in_ok-on_link-2.ensures at c.pass_on.ensures.waiting in
+          let waiting = rw c.in_ok-on_link-2.ensures at c.pass_on.ensures.takes.waiting in
           let on = subst (IsFollowed c.args.task.now c.next.new.self c.pass_on.new.seats) (sym waiting)
           (followed_on c.args.task.now c.loop-update.reader c.next.new.self c.loop-update.seats c.pass_on.new.seats c.loop-update.feed.waiting c.in-Some.update had after
-          (c.pass_on.ensures.stands _ _ _ had.sent had.stand.stand)) in
+          (c.pass_on.ensures.takes.stands _ _ _ had.sent had.stand.stand)) in
           followed_many c.args.task.now c.next.new.self _ c.pass_on.new.seats c.pass_on.new.feed.waiting _ took.0 took.1 on took.3 took.2);
-      version = c.take_held.ensures.version ∙ c.pass_on.ensures.version ∙ c.loop-update.invariant.version;
+      version = c.take_held.ensures.version ∙ c.pass_on.ensures.takes.version ∙ c.loop-update.invariant.version;
       few = c.take_held.ensures.few;
       items = subst (All (λ (u : Update). u.item < 2 ^ task.depth)) (sym took.2) (All-append (λ (u : Update). u.item < 2 ^ task.depth) c.pass_on.new.feed.waiting took.0 passed more);
-      levels = c.pass_on.ensures.depth ∙ c.loop-update.invariant.levels;
+      levels = c.pass_on.ensures.takes.depth ∙ c.loop-update.invariant.levels;
       depth = took.3.depth ∙ depth;
       form = took.3.form ∙ form;
       ready = took.3.spent ∙ ready;
@@ -151,14 +162,6 @@ returns-in_err-on_link-3-clause-passes_on g c = λ bytes at_blocks all has.
     let (port, stop, is) = c.in_err-on_link-3.ensures in
     let moved = rw stop at (at_end (version_of c.args.task.now) _ _ _ _ so.stream _ c.finish.result so.said (rw c.loop-update.invariant.version at c.finish.ensures.talk)) in
     rw (p.1, p.2, is) (link_stops _ bytes _ _ at_blocks has _ port (stops_at_end _ bytes _ _ at_blocks has _ _ _ _ _ _ _ so reads moved))
-
-pub pass_on-requires-clause-room : goal.pass_on-requires-clause-room
-pass_on-requires-clause-room g c =
-    let had = c.loop-update.invariant.seats in
-    let after = rw (c.in_ok-update.ensures, c.in-Some.is) at (c.next.ensures.after (had.sent ++ c.loop-update.feed.waiting) had.after) in
-    let depth : c.next.new.self.depth ≡ c.args.task.now.depth = search rules in
-    followed_room c.args.task.now c.next.new.self c.loop-update.seats _
-    (followed_one c.args.task.now c.loop-update.reader c.next.new.self c.loop-update.seats c.loop-update.feed.waiting c.in-Some.update had after) depth
 
 pub update_all-requires-clause-room : goal.update_all-requires-clause-room
 update_all-requires-clause-room g c =

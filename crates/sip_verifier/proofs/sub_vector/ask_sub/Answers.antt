@@ -4,7 +4,7 @@ use Rattle.std.proofs.lemmas.List.{take_at}
 use Rattle.sip_vector.specs.declared.update.Entry.{Entry}
 use Rattle.sip_subvec.specs.Asking.{most_answer}
 use Rattle.sip_verifier.specs.inside.Judging.{found_in}
-use Rattle.sip_verifier.proofs.KeptReplies.{replies_kept}
+use Rattle.sip_verifier.proofs.KeptAsks.{asked_keeps}
 use Rattle.sip_verifier.proofs.RootAsked.{RootAnswers, interval_fits, root_asks, root_counts, root_short}
 use Rattle.sip_verifier.proofs.sub_vector.ask_sub.Goals as goal
 
@@ -17,10 +17,13 @@ ask-asked-requires-clause-stood g c =
     let room : most_answer c.args.lo c.args.hi ≤ length c.deref_mut.result.now = search rules in
     (_, c.start-check.ensures.stands c.args.version c.deref_mut.result.now room)
 
-pub returns-clause-kept : goal.returns-clause-kept
-returns-clause-kept g c =
+pub returns-clause-keeps : goal.returns-clause-keeps
+returns-clause-keeps g c =
     let room : most_answer c.args.lo c.args.hi ≤ length c.deref_mut.result.now = search rules in
-    rw c.verdict_of.ensures (replies_kept _ _ _ _ _ _ _ _ c.ask-asked.result (c.ask-asked.ensures.answers _ refl (c.start-check.ensures.stands c.args.version c.deref_mut.result.now room)))
+    let e = c.ask-asked.ensures in
+    rw c.verdict_of.ensures
+    (asked_keeps _ _ _ _ _ _ _ _ c.ask-asked.result (e.answers _ refl (c.start-check.ensures.stands c.args.version c.deref_mut.result.now room))
+    e.peer e.keeper e.memory e.keeper_memory)
 
 pub returns-clause-asks : goal.returns-clause-asks
 returns-clause-asks g c = λ depth stream stands.

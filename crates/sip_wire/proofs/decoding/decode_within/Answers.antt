@@ -5,19 +5,19 @@ use Rattle.sip_wire.proofs.decoding.decode_within.Goals as goal
 pub returns-in_err-receive-clause-did : goal.returns-in_err-receive-clause-did
 returns-in_err-receive-clause-did g c =
     let p = err_from_is_err_and c.from_residual.result c.from_residual.ensures.1 in
-    rw (p.1, p.2) (stopped_in_head c.args.version c.args.place _ _ _ _ _ _ _ c.clear.ensures c.in_err-receive.ensures.heard c.in_err-receive.ensures.failed)
+    rw (p.1, p.2) (stopped_in_head c.args.version c.args.place _ _ _ _ _ _ _ c.clear.ensures.bytes c.in_err-receive.ensures.heard c.in_err-receive.ensures.failed)
 
 pub returns-in_err-kind-clause-did : goal.returns-in_err-kind-clause-did
 returns-in_err-kind-clause-did g c =
     let p = err_from_is_err_and c.from_residual-in_err-kind.result c.from_residual-in_err-kind.ensures.1 in
     let bad = rw c.bytes.ensures at c.in_err-kind.ensures in
-    rw (p.1, p.2) (bad_head c.args.version c.args.place _ _ _ _ _ _ _ c.clear.ensures c.in_ok-receive.ensures.heard bad.0 bad.1 bad.2)
+    rw (p.1, p.2) (bad_head c.args.version c.args.place _ _ _ _ _ _ _ c.clear.ensures.bytes c.in_ok-receive.ensures.heard bad.0 bad.1 bad.2)
 
 pub returns-in_err-receive-2-clause-did : goal.returns-in_err-receive-2-clause-did
 returns-in_err-receive-2-clause-did g c =
     let p = err_from_is_err_and c.from_residual-in_err-receive-2.result c.from_residual-in_err-receive-2.ensures.1 in
     let is = rw c.bytes.ensures at c.in_ok-kind.ensures in
-    rw (p.1, p.2) (stopped_in_body c.args.version c.args.place _ _ _ _ _ _ _ _ _ _ _ _ c.clear.ensures c.in_ok-receive.ensures.heard is c.receive.ensures.lasts.later c.in_err-receive-2.ensures.heard c.in_err-receive-2.ensures.failed)
+    rw (p.1, p.2) (stopped_in_body c.args.version c.args.place _ _ _ _ _ _ _ _ _ _ _ _ c.clear.ensures.bytes c.in_ok-receive.ensures.heard is c.receive.ensures.lasts.later c.in_err-receive-2.ensures.heard c.in_err-receive-2.ensures.failed)
 
 pub read-requires-clause-body : goal.read-requires-clause-body
 read-requires-clause-body g c =
@@ -27,7 +27,7 @@ read-requires-clause-body g c =
 pub returns-clause-did : goal.returns-clause-did
 returns-clause-did g c =
     let is = rw c.bytes.ensures at c.in_ok-kind.ensures in
-    rw c.read.ensures.bytes (came_all c.args.version c.args.place _ _ _ _ _ _ _ _ _ _ _ c.clear.ensures c.in_ok-receive.ensures.heard is c.in_ok-receive-2.ensures.heard c.read.ensures.fits c.read.ensures.read)
+    rw c.read.ensures.bytes (came_all c.args.version c.args.place _ _ _ _ _ _ _ _ _ _ _ c.clear.ensures.bytes c.in_ok-receive.ensures.heard is c.in_ok-receive-2.ensures.heard c.read.ensures.fits c.read.ensures.read)
 
 pub returns-in_err-kind-clause-memory : goal.returns-in_err-kind-clause-memory
 returns-in_err-kind-clause-memory g c =

@@ -1,6 +1,7 @@
 -- What came of the next lookup came of the first that is left.
 use Rattle.std.proofs.Common.{◌<◌, ◌≤◌, ◌+◌, ◌^◌, List, Err, get_or, length, refl, sym, ap, subst, ◌∙◌, arith}
 use Rattle.sip_verifier.specs.runs.Askers.{Asks, IsFirst, has_failed}
+use Rattle.sip_verifier.proofs.KeptAsks.{given_keeps, stop_keeps}
 use Rattle.sip_lookup.specs.declared.asker.LookGiven.{LookGiven}
 use Rattle.sip_lookup.specs.declared.lookup.Lookup.{Lookup}
 use Rattle.sip_lookup.specs.declared.lookup.Lookup.TheVariants.{Index}
@@ -72,3 +73,11 @@ returns-clause-remaining g c =
 pub returns-in-Err-clause-remaining : goal.returns-in-Err-clause-remaining
 returns-in-Err-clause-remaining g c =
     behind_now c.self.inside.version c.self.inside.depth c.self.inside.lookups.items c.self.inside.seats c.self.inside.asked c.self.inside.is_spent c.args.self.now c.self.view_is _ _ (c.has_failed-self-inside.ensures ∙ ap has_failed c.in-Err.is)
+
+pub returns-clause-keeps : goal.returns-clause-keeps
+returns-clause-keeps g c =
+    rw (← c.self.view_is) (given_keeps c.self.inside.version _ _ _ _ _ _ (rw c.in-Ok.is at c.ask_look-asked.ensures.keeps))
+
+pub returns-in-Err-clause-keeps : goal.returns-in-Err-clause-keeps
+returns-in-Err-clause-keeps g c =
+    rw (← c.self.view_is) (stop_keeps c.self.inside.version _ _ _ _ _ (rw c.in-Err.is at c.ask_look-asked.ensures.keeps))

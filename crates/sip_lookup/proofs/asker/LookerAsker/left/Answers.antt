@@ -1,15 +1,11 @@
 -- As many lookups are left as were not asked.
-use Rattle.std.proofs.Common.{◌≡◌, ◌-◌, ℕ, List, length, drop, map, subst, arith, length-drop}
+use Rattle.std.proofs.Common.{◌≡◌, ◌-◌, length, drop, map, subst, arith, length-drop}
 use Rattle.std.specs.List.{zip}
 use Rattle.std.proofs.lemmas.List.{length-map}
 use Rattle.std.proofs.lemmas.Slice.Zip.{length-zip}
-use Rattle.sip_verifier.specs.QuerySeats.{Seated}
-use Rattle.sip_lookup.specs.declared.lookup.Lookup.{Lookup}
 use Rattle.sip_lookup.specs.Sittings.{LookSitting}
+use Rattle.sip_lookup.proofs.LooksLeft.{asked_of}
 use Rattle.sip_lookup.proofs.asker.LookerAsker.left.Goals as goal
-
-abbrev asked_of : Lookup × Seated → Lookup × List ℕ
-asked_of x = (x.0, x.1.block)
 
 pub returns : goal.returns
 returns c =

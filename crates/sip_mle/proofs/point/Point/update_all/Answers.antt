@@ -1,10 +1,9 @@
 -- The new value by the clauses of the calls, and from it what the point stands for.
 use Rattle.std.proofs.Common.{rules, ◌≡◌, ℕ, List, pos, FitsSigned, w64, to_z, of_z, ◌+◌, ◌*◌, ◌%◌, ◌^◌, ◌<◌, take, length, get_or, refl, sym, ◌∙◌, ap, subst, arith}
-use Rattle.std.proofs.Math.Nat.{add-mod-mod}
 use Rattle.std.proofs.lemmas.Int.{to_z-of_z}
 use Rattle.std.proofs.lemmas.List.{take_all, length-take-le}
 use Rattle.std.proofs.lemmas.List.Elements.{All-get_or}
-use Rattle.sip_field.specs.Products.{zero_factor, bits_product}
+use Rattle.sip_field.specs.Products.{zero_factor}
 use Rattle.sip_field.specs.declared.factors.Factors.TheVariants.{Extension}
 use Rattle.sip_field.specs.Residue.{residue}
 use Rattle.sip_vector.specs.Extensions.{chi}
@@ -13,7 +12,8 @@ use Rattle.sip_vector.specs.declared.update.Side.TheVariants.{First}
 use Rattle.sip_vector.specs.declared.update.Update.{Update}
 use Rattle.sip_mle.specs.Blocks.{point_after}
 use Rattle.sip_mle.specs.StandsFor.{PointStandsFor}
-use Rattle.sip_mle.proofs.Blocks.{factor_is_product, one_point, point_stands_after}
+use Rattle.sip_vector.proofs.RunningSums.{one_more}
+use Rattle.sip_mle.proofs.Blocks.{point_is_products, point_stands_after, point_term}
 use Rattle.sip_mle.proofs.point.Point.update_all.Goals as goal
 
 pub loop-update-init : goal.loop-update-init
@@ -42,33 +42,10 @@ loop-update-preserved g c =
     let kept : to_z w64 (of_z w64 u.delta) ≡ u.delta = to_z-of_z w64 u.delta fits in
     record {
       seat = c.update.ensures.seat ∙ c.loop-update.invariant.seat;
-      value = one_point p seat c.args.self.now.value updates k none v _ c.loop-update-test.true c.loop-update.invariant.value
+      value = one_more p (point_term p seat) c.args.self.now.value updates k none v _ c.loop-update-test.true c.loop-update.invariant.value
           (c.update.ensures.value ∙ ap (λ d. (v + residue p d * chi p u.item c.loop-update.self.seat) % p) kept
           ∙ ap (λ rs. (v + residue p u.delta * chi p u.item rs) % p) c.loop-update.invariant.seat);
     }
-
-pub loop-update-else-updates-lt-BLOCK-preserved : goal.loop-update-else-updates-lt-BLOCK-preserved
-loop-update-else-updates-lt-BLOCK-preserved g c =
-    let p : ℕ = g.F.Field.MODULUS in
-    let seat : List ℕ = c.args.self.now.seat in
-    let updates : List Update = c.args.updates.now in
-    let k : ℕ = c.loop-update-else-updates-lt-BLOCK.update-index in
-    let u : Update = get_or updates k none in
-    let v : ℕ = g.F.Field.number c.loop-update-else-updates-lt-BLOCK.sum in
-    let here : k < length updates = c.loop-update-else-updates-lt-BLOCK-test.true in
-    let fits : FitsSigned w64 u.delta = search rules in
-    let kept : to_z w64 (of_z w64 u.delta) ≡ u.delta = to_z-of_z w64 u.delta fits in
-    let n : ℕ = c.fill_tables-count.result in
-    let long : length (take n c.fill_tables-count.new.tables) ≡ n =
-    length-take-le n c.fill_tables-count.new.tables (omega (arith, c.fill_tables-count.array_long, c.fill_tables-count.ensures.count)) in
-    let within : u.item < 2 ^ length seat =
-    All-get_or (λ u. u.item < 2 ^ length seat) updates k none here c.requires.items in
-    let weighed : g.F.Field.number c.by_tables.result ≡ (residue p u.delta * chi p u.item seat) % p =
-    c.by_tables.ensures (zero_factor p Extension) seat c.fill_tables-count.ensures.tables (omega (arith, long, c.fill_tables-count.ensures.all)) within
-    ∙ ap (λ x. (x * bits_product p (zero_factor p Extension) u.item seat) % p) (c.of_signed-delta.ensures ∙ ap (residue p) kept)
-    ∙ ap (λ w. (residue p u.delta * w) % p) (factor_is_product p u.item seat) in
-    one_point p seat c.args.self.now.value updates k none v _ here c.loop-update-else-updates-lt-BLOCK.invariant
-    (c.plus-sum.ensures ∙ ap (λ x. (v + x) % p) weighed ∙ add-mod-mod v (residue p u.delta * chi p u.item seat) p)
 
 pub returns-after-loop-update-clause-value : goal.returns-after-loop-update-clause-value
 returns-after-loop-update-clause-value g c =
@@ -83,16 +60,21 @@ returns-after-loop-update-clause-stands g c numbers stands =
     (point_stands_after p c.args.self.now.seat some c.args.updates.now c.args.self.now.value c.loop-update.self.value numbers c.requires.items
     (returns-after-loop-update-clause-value g c) stands)
 
-pub returns-after-loop-update-else-updates-lt-BLOCK-clause-value :
-    goal.returns-after-loop-update-else-updates-lt-BLOCK-clause-value
-returns-after-loop-update-else-updates-lt-BLOCK-clause-value g c =
-    c.number-self.ensures ∙ c.loop-update-else-updates-lt-BLOCK.invariant
-    ∙ ap (point_after g.F.Field.MODULUS c.args.self.now.seat c.args.self.now.value)
-    (take_all c.loop-update-else-updates-lt-BLOCK.update-index c.args.updates.now c.loop-update-else-updates-lt-BLOCK-test.false)
+-- the point by the tables
+pub returns-else-updates-lt-BLOCK-clause-value : goal.returns-else-updates-lt-BLOCK-clause-value
+returns-else-updates-lt-BLOCK-clause-value g c =
+    let p : ℕ = g.F.Field.MODULUS in
+    let seat : List ℕ = c.args.self.now.seat in
+    let n : ℕ = c.fill_tables-count.result in
+    let long : length (take n c.fill_tables-count.new.tables) ≡ n =
+    length-take-le n c.fill_tables-count.new.tables (omega (arith, c.fill_tables-count.array_long, c.fill_tables-count.ensures.count)) in
+    c.number-self.ensures
+    ∙ c.added_by_tables.ensures (zero_factor p Extension) seat c.fill_tables-count.ensures.tables (omega (arith, long, c.fill_tables-count.ensures.all)) c.requires.items
+    ∙ point_is_products p seat (g.F.Field.number c.of_number-point.result) c.args.updates.now
+    ∙ ap (λ v. point_after p seat v c.args.updates.now) c.of_number-point.ensures
 
-pub returns-after-loop-update-else-updates-lt-BLOCK-clause-stands :
-    goal.returns-after-loop-update-else-updates-lt-BLOCK-clause-stands
-returns-after-loop-update-else-updates-lt-BLOCK-clause-stands g c numbers stands =
+pub returns-else-updates-lt-BLOCK-clause-stands : goal.returns-else-updates-lt-BLOCK-clause-stands
+returns-else-updates-lt-BLOCK-clause-stands g c numbers stands =
     let some : 0 < g.F.Field.MODULUS = omega (arith, g.met.F.Field.at_least) in
     point_stands_after g.F.Field.MODULUS c.args.self.now.seat some c.args.updates.now c.args.self.now.value c.number-self.result numbers c.requires.items
-    (returns-after-loop-update-else-updates-lt-BLOCK-clause-value g c) stands
+    (returns-else-updates-lt-BLOCK-clause-value g c) stands

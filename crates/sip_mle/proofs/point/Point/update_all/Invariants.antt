@@ -8,9 +8,3 @@ invariant-loop-update g l = record {
   seat : l.self.seat ≡ l.fn.self.seat;
   value : l.self.value ≡ point_after g.F.Field.MODULUS l.fn.self.seat l.fn.self.value (take l.update-index l.updates);
 }
-
--- and so is the sum
-abbrev pub invariant-loop-update-else-updates-lt-BLOCK :
-    goal.invariant-loop-update-else-updates-lt-BLOCK
-invariant-loop-update-else-updates-lt-BLOCK g l =
-    g.F.Field.number l.sum ≡ point_after g.F.Field.MODULUS l.fn.self.seat l.fn.self.value (take l.update-index l.updates)

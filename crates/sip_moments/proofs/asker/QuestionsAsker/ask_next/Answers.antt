@@ -1,11 +1,14 @@
 -- What came of the next moment came of the first that is left.
-use Rattle.std.proofs.Common.{◌≡◌, ◌<◌, ◌+◌, ◌≤◌, ℕ, List, get_or, length, Err, refl, sym, ap, subst, ◌∙◌, arith, rules, w64, to_z, of_z, FitsSigned}
+use Rattle.std.proofs.Common.{◌≡◌, ◌<◌, ◌+◌, ◌≤◌, ℕ, ℤ, List, get_or, length, Err, refl, sym, ap, subst, ◌∙◌, arith, rules, w64, to_z, of_z, FitsSigned}
 use Rattle.std.proofs.lemmas.Int.{to_z-of_z}
 use Rattle.sip_field.specs.Elements.{m61_number}
 use Rattle.sip_vector.specs.declared.update.Side.TheVariants.{First}
+use Rattle.sip_verifier.specs.AskClause.{AskClause}
 use Rattle.sip_verifier.specs.runs.Askers.{Asks, IsFirst, has_failed}
 use Rattle.sip_verifier.specs.SeatNumbers.{IsPointAt}
-use Rattle.sip_moments.specs.declared.asker.Given.{Given}
+use Rattle.sip_verifier.specs.Snapshots.{sink}
+use Rattle.sip_verifier.proofs.KeptAsks.{answer_keeps, stop_keeps}
+use Rattle.sip_moments.specs.declared.asker.MomentGiven.{MomentGiven}
 use Rattle.sip_moments.specs.declared.moment.Moment.{Moment}
 use Rattle.sip_moments.specs.Manner.{asking}
 use Rattle.sip_moments.specs.Moments.{IsDegree}
@@ -62,9 +65,9 @@ returns-in-Err-clause-asks g c = λ stream ask stands first.
     (subst (λ (s : Sitting). IsFirst (remaining_of s) ask) (sym is) first)
     (read_at c.self.inside.moments.items c.deref.result.now c.self.inside.asked none c.deref.ensures.0 less) point in
     let asks = c.ask_moment-asked.ensures.asks c.self.inside.seats.depth stream next.power in
-    subst (λ (s : Sitting). Asks (asking s.version s.seats.depth stream) ask (g.L.Sink.talk c.args.link.now) (g.L.Sink.talk c.ask_moment-asked.new.link) (λ (given : Given) z. States given ask.0 z) (Err c.in-Err.why)) is
+    subst (λ (s : Sitting). Asks (asking s.version s.seats.depth stream) ask (g.L.Sink.talk c.args.link.now) (g.L.Sink.talk c.ask_moment-asked.new.link) (λ (given : MomentGiven) z. States given ask.0 z) (Err c.in-Err.why)) is
     (none_next (asking c.self.inside.version c.self.inside.seats.depth stream) ask _ _ _ _ next.same
-    (λ (given : Given) z. States given ask.0 z) c.in-Err.why (rw c.in-Err.is at asks))
+    (λ (given : MomentGiven) z. States given ask.0 z) c.in-Err.why (rw c.in-Err.is at asks))
 
 pub returns-clause-remaining : goal.returns-clause-remaining
 returns-clause-remaining g c =
@@ -73,3 +76,18 @@ returns-clause-remaining g c =
 pub returns-in-Err-clause-remaining : goal.returns-in-Err-clause-remaining
 returns-in-Err-clause-remaining g c =
     behind_now _ c.args.self.now c.self.view_is _ _ (c.has_failed-self-inside.ensures ∙ ap has_failed c.in-Err.is)
+
+pub returns-clause-keeps : goal.returns-clause-keeps
+returns-clause-keeps g c =
+    let e = c.ask_moment-asked.ensures in
+    rw (← c.self.view_is) (answer_keeps c.self.inside.version _ _ _ _ _ (rw c.in-Ok.is at e.kept))
+
+pub returns-in-Err-clause-keeps : goal.returns-in-Err-clause-keeps
+returns-in-Err-clause-keeps g c =
+    let e = c.ask_moment-asked.ensures in
+    let whole : AskClause {G = ℤ} c.self.inside.version (sink g.L.Sink.talk g.L.Sink.faults g.L.Sink.wants c.args.link.now)
+    (sink g.L.Sink.talk g.L.Sink.faults g.L.Sink.wants c.ask_moment-asked.new.link)
+    (sink g.C.Sink.talk g.C.Sink.faults g.C.Sink.wants c.args.keep.now)
+    (sink g.C.Sink.talk g.C.Sink.faults g.C.Sink.wants c.ask_moment-asked.new.keep) c.ask_moment-asked.result =
+    record { kept = e.kept; cause = e.cause; keep_cause = e.keep_cause; memory = e.memory } in
+    rw (← c.self.view_is) (stop_keeps c.self.inside.version _ _ _ _ c.in-Err.why (rw c.in-Err.is at whole))

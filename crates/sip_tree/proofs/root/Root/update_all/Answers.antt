@@ -9,7 +9,9 @@ use Rattle.sip_vector.specs.declared.update.Side.TheVariants.{First}
 use Rattle.sip_vector.specs.declared.update.Update.{Update}
 use Rattle.sip_tree.specs.Blocks.{root_after}
 use Rattle.sip_tree.specs.StandsFor.{RootStandsFor}
-use Rattle.sip_tree.proofs.Blocks.{one_more, root_term, root_stands_after}
+use Rattle.sip_field.specs.Products.{zero_factor}
+use Rattle.sip_field.specs.declared.factors.Factors.TheVariants.{Tree}
+use Rattle.sip_tree.proofs.Blocks.{one_more, root_is_products, root_term, root_stands_after}
 use Rattle.sip_tree.proofs.root.Root.update_all.Goals as goal
 
 pub loop-update-init : goal.loop-update-init
@@ -63,9 +65,11 @@ returns-else-updates-lt-BLOCK-clause-value g c =
     let n : ℕ = c.fill_tables-count.result in
     let long : length (take n c.fill_tables-count.new.tables) ≡ n =
     length-take-le n c.fill_tables-count.new.tables (omega (arith, c.fill_tables-count.array_long, c.fill_tables-count.ensures.count)) in
+    let p : ℕ = g.F.Field.MODULUS in
     c.number-self.ensures
-    ∙ c.added_by_tables.ensures seat c.fill_tables-count.ensures.tables (omega (arith, long, c.fill_tables-count.ensures.all)) c.requires.items
-    ∙ ap (λ v. root_after g.F.Field.MODULUS seat v c.args.updates.now) c.of_number-root.ensures
+    ∙ c.added_by_tables.ensures (zero_factor p Tree) seat c.fill_tables-count.ensures.tables (omega (arith, long, c.fill_tables-count.ensures.all)) c.requires.items
+    ∙ root_is_products p seat (g.F.Field.number c.of_number-root.result) c.args.updates.now
+    ∙ ap (λ v. root_after p seat v c.args.updates.now) c.of_number-root.ensures
 
 pub returns-else-updates-lt-BLOCK-clause-stands : goal.returns-else-updates-lt-BLOCK-clause-stands
 returns-else-updates-lt-BLOCK-clause-stands g c numbers stands =

@@ -1,12 +1,8 @@
-use Rattle.std.proofs.Common.{◌+◌, List, Option, Some, fold, refl, sym, ap, ◌∙◌, arith}
-use Rattle.sip_vector.specs.declared.update.Entry.{Entry}
+use Rattle.std.proofs.Common.{◌+◌, Some, refl, sym, ap, ◌∙◌, arith}
 use Rattle.sip_vector.proofs.Filters.{nonzero_within-none}
 use Rattle.sip_vector.proofs.Walks.{nonzero_within-next, nonzero_within-last, nonzero_within-found}
+use Rattle.sip_vector.proofs.LastEntry.{last_behind}
 use Rattle.sip_vector.proofs.vector.Vector.last_by_walk.Goals as goal
-
--- the last of these entries, or the one before them
-abbrev last_behind : Option Entry → List Entry → Option Entry
-last_behind o es = fold (λ (before : Option Entry) (e : Entry). Some e) o es
 
 pub loop-entry-init : goal.loop-entry-init
 loop-entry-init c = record { all = refl; within = c.requires.order }

@@ -3,6 +3,7 @@ use Rattle.std.proofs.Common.{◌≡◌, refl, ap, sym, rules, w64, to_z, of_z, 
 use Rattle.std.proofs.lemmas.Int.{to_z-of_z}
 use Rattle.sip_vector.specs.Answers.{number, pairs}
 use Rattle.sip_verifier.specs.Given.{States}
+use Rattle.sip_verifier.proofs.KeptAsks.{given_keeps, stop_keeps}
 use Rattle.sip_verifier.proofs.SessionAsks.{asked_first, fault_first, query_first, still_stand}
 use Rattle.sip_verifier.proofs.queries.SessionAsker.ask_next.Goals as goal
 
@@ -48,14 +49,18 @@ returns-in-Err-clause-asks g c = λ stream ask all first.
 pub returns-in-Err-clause-stands : goal.returns-in-Err-clause-stands
 returns-in-Err-clause-stands g c = λ stream all. still_stand c.args.self.now c.ask.new.self stream c.ask.ensures.next c.ask.ensures.depth all
 
-pub returns-in-Ok-Number-clause-kept : goal.returns-in-Ok-Number-clause-kept
-returns-in-Ok-Number-clause-kept g c = rw (c.in-Ok-Number.is, c.in-Ok-Number.field-0-is) at c.ask.ensures.kept
+pub returns-in-Ok-Number-clause-keeps : goal.returns-in-Ok-Number-clause-keeps
+returns-in-Ok-Number-clause-keeps g c =
+    given_keeps c.args.self.now.version _ _ _ _ _ _ (rw (c.in-Ok-Number.is, c.in-Ok-Number.field-0-is) at c.ask.ensures.keeps)
 
-pub returns-in-Ok-Pairs-clause-kept : goal.returns-in-Ok-Pairs-clause-kept
-returns-in-Ok-Pairs-clause-kept g c = rw (c.in-Ok-Pairs.is, c.in-Ok-Pairs.field-0-is) at c.ask.ensures.kept
+pub returns-in-Ok-Pairs-clause-keeps : goal.returns-in-Ok-Pairs-clause-keeps
+returns-in-Ok-Pairs-clause-keeps g c =
+    given_keeps c.args.self.now.version _ _ _ _ _ _ (rw (c.in-Ok-Pairs.is, c.in-Ok-Pairs.field-0-is) at c.ask.ensures.keeps)
 
-pub returns-in-Ok-Rejected-clause-kept : goal.returns-in-Ok-Rejected-clause-kept
-returns-in-Ok-Rejected-clause-kept g c = rw (c.in-Ok-Rejected.is, c.in-Ok-Rejected.field-0-is) at c.ask.ensures.kept
+pub returns-in-Ok-Rejected-clause-keeps : goal.returns-in-Ok-Rejected-clause-keeps
+returns-in-Ok-Rejected-clause-keeps g c =
+    stop_keeps c.args.self.now.version _ _ _ _ _ (rw (c.in-Ok-Rejected.is, c.in-Ok-Rejected.field-0-is) at c.ask.ensures.keeps)
 
-pub returns-in-Err-clause-kept : goal.returns-in-Err-clause-kept
-returns-in-Err-clause-kept g c = rw c.in-Err.is at c.ask.ensures.kept
+pub returns-in-Err-clause-keeps : goal.returns-in-Err-clause-keeps
+returns-in-Err-clause-keeps g c =
+    stop_keeps c.args.self.now.version _ _ _ _ _ (rw c.in-Err.is at c.ask.ensures.keeps)

@@ -9,3 +9,7 @@ returns-clause-fits g c = λ seat more is.
     let left : drop c.self.inside.asked c.self.inside.seats.seats ≡ seat ∷ more = ap (λ (s : Sitting). s.left) c.self.view_is ∙ is in
     let levels : c.self.inside.seats.depth ≡ c.args.self.now.depth = ap (λ (s : Sitting). s.depth) c.self.view_is in
     subst (λ d. Fits d seat.query) levels (left_fits c.self.inside.seats.depth c.self.inside.asked c.self.inside.seats.seats seat more c.all-seats.ensures.each left)
+
+pub returns-clause-keeps : goal.returns-clause-keeps
+returns-clause-keeps g c =
+    rw (← c.self.view_is) (rw c.verdict_of-verdict.ensures c.ask_seat-asked.ensures.keeps)

@@ -1,0 +1,196 @@
+//! The query of a seat, asked of the helper by the check of its kind.
+
+ghost use Rattle.std.specs.Prelude.{◌≡◌, ◌≤◌, ◌*◌, ◌/◌, IsSomeAnd, ℕ, List, Some, length, take};
+ghost use Rattle.std.specs.Prelude.{IsTrue};
+ghost use Rattle.sip_field.specs.Elements.{m61_number};
+ghost use Rattle.sip_field.specs.Moduli.{m61_modulus};
+ghost use Rattle.sip_ports.specs.Ports.{Lasts};
+ghost use Rattle.sip_vector.specs.declared.update.Update.{Update as AnyUpdate};
+ghost use Rattle.sip_sums.specs.AcceptsSum.{product_at};
+ghost use Rattle.sip_sums.specs.Questions.{Lists, lists_of};
+ghost use Rattle.sip_wire.specs.Versions.{Speaks};
+ghost use Rattle.sip_verifier.specs.AskClause.{AskClause, came_of};
+ghost use Rattle.sip_verifier.specs.Asking.{Asks};
+ghost use Rattle.sip_verifier.specs.inside.Judging.{found_in, most_nodes, most_places, verdict_of};
+ghost use Rattle.sip_verifier.specs.inside.Protocols.{IsProtocol};
+ghost use Rattle.sip_heavy.specs.Protocol.{count_of, heavy_asked, heavy_protocol};
+ghost use Rattle.std.specs.Option.{option_map};
+ghost use Rattle.sip_verifier.specs.QuerySeats.{StandsFor, is_seat};
+ghost use Rattle.sip_verifier.specs.Snapshots.{sink};
+
+use crate::seat::{QuerySeat, Running};
+use crate::session::{SessionFault, Verdict};
+use sip_field::{Field, M61};
+use sip_heavy::{HeavyAsking, HeavySpace};
+use sip_mle::interval_at;
+use sip_ports::{Link, Sink};
+use sip_replies::{AskStop, Said, ask};
+use sip_subvec::SubAsking;
+use sip_sums::SumAsking;
+use sip_tree::AugRoot;
+use sip_vector::{CAP, Entry, Query, share_of};
+use sip_wire::{Frame, Version};
+
+/// Asks the query of a seat, takes the replies and checks them. The pairs of an answer are written
+/// to the front of `entries`, and what comes of the replies to `keep`.
+#[inline(never)]
+pub(crate) fn ask_seat<L: Link, C: Sink>(
+    version: Version,
+    seat: &QuerySeat,
+    entries: &mut [Entry],
+    frame: &mut Frame,
+    space: &mut Option<HeavySpace>,
+    link: &mut L,
+    keep: &mut C,
+) -> Result<Said, AskStop>
+    requires seat { IsTrue (is_seat (length seat.now.block) seat.now) }
+    requires speaks { Speaks version (length seat.now.block) seat.now.query }
+    requires room { most_places seat.now.query seat.now.running ≤ length entries.old }
+    requires space { IsSomeAnd space.old
+        (λ s. most_nodes seat.now.query seat.now.running ≤ s.nodes) }
+    ensures asks { (depth : ℕ) (stream : List AnyUpdate) → StandsFor depth stream seat.now
+        → Asks version depth stream seat.now.query seat.now.block
+        (L.talk link.old) (L.talk link.new)
+        (take (found_in (length entries.new) result) entries.new) (verdict_of result) }
+    ensures places { length entries.new ≡ length entries.old }
+    ensures space { option_map (λ s. s.nodes) space.new ≡ option_map (λ s. s.nodes) space.old }
+    ensures keeps { AskClause version
+        (sink L.talk L.faults L.wants link.old) (sink L.talk L.faults L.wants link.new)
+        (sink C.talk C.faults C.wants keep.old) (sink C.talk C.faults C.wants keep.new)
+        (came_of (verdict_of result)) }
+    ensures link { Lasts L.faults L.wants L.is_sure link.old link.new }
+    ensures keep { Lasts C.faults C.wants C.is_sure keep.old keep.new }
+{
+    match (&seat.query, &seat.running) {
+        (Query::Sub { lo, hi }, Running::Root(root)) => {
+            let levels = root.seat.depth();
+            prove!(levels <= CAP);
+            let mut check = SubAsking::start(root, *lo, *hi);
+            ask(&mut check, version, &seat.query, entries, frame, link, keep)
+        }
+        (Query::Range { lo, hi, .. }, Running::Point(point)) => {
+            let interval = interval_at(&point.seat, *lo, *hi);
+            let product = point.value().times(interval);
+            ask_sum(version, seat, product, entries, frame, link, keep)
+        }
+        (Query::F2 { .. }, Running::Point(point)) => {
+            let product = point.value().times(point.value());
+            ask_sum(version, seat, product, entries, frame, link, keep)
+        }
+        (Query::Inner, Running::Points(points)) => {
+            let product = points.first.value().times(points.second);
+            ask_sum(version, seat, product, entries, frame, link, keep)
+        }
+        (Query::Heavy { at_least, .. }, Running::AugRoot(root)) => {
+            ask_heavy(
+                version, seat, root, *at_least, entries, frame, space, link, keep,
+            )
+        }
+        (Query::Share { num, den, .. }, Running::AugRoot(root)) => {
+            let at_least = share_of(root.total(), *num, *den);
+            ask_heavy(
+                version, seat, root, at_least, entries, frame, space, link, keep,
+            )
+        }
+        _ => unreachable!(),
+    }
+}
+
+// Asks the query of a seat for the entries of at least `at_least` in the vector that has this root.
+fn ask_heavy<L: Link, C: Sink>(
+    version: Version,
+    seat: &QuerySeat,
+    root: &AugRoot<M61, CAP>,
+    at_least: u64,
+    entries: &mut [Entry],
+    frame: &mut Frame,
+    space: &mut Option<HeavySpace>,
+    link: &mut L,
+    keep: &mut C,
+) -> Result<Said, AskStop>
+    requires seat { IsTrue (is_seat (length seat.now.block) seat.now) }
+    requires speaks { Speaks version (length seat.now.block) seat.now.query }
+    requires least { 1 ≤ at_least }
+    requires room { 2 * (count_of root.now.total / at_least) ≤ length entries.old }
+    requires space { IsSomeAnd space.old
+        (λ s. 2 * (count_of root.now.total / at_least) ≤ s.nodes) }
+    ensures asks { (depth : ℕ) (stream : List AnyUpdate)
+        → IsProtocol version depth stream seat.now.query root.now.seat (heavy_protocol
+        (heavy_asked version m61_modulus root.now.hash root.now.total (length root.now.seat)
+        at_least))
+        → Asks version depth stream seat.now.query root.now.seat
+        (L.talk link.old) (L.talk link.new)
+        (take (found_in (length entries.new) result) entries.new) (verdict_of result) }
+    ensures places { length entries.new ≡ length entries.old }
+    ensures space { option_map (λ s. s.nodes) space.new ≡ option_map (λ s. s.nodes) space.old }
+    ensures keeps { AskClause version
+        (sink L.talk L.faults L.wants link.old) (sink L.talk L.faults L.wants link.new)
+        (sink C.talk C.faults C.wants keep.old) (sink C.talk C.faults C.wants keep.new)
+        (came_of (verdict_of result)) }
+    ensures link { Lasts L.faults L.wants L.is_sure link.old link.new }
+    ensures keep { Lasts C.faults C.wants C.is_sure keep.old keep.new }
+{
+    let Some(lent) = space.take() else {
+        unreachable!()
+    };
+    let mut check = HeavyAsking::start(root, at_least, lent);
+    let asked = ask(&mut check, version, &seat.query, entries, frame, link, keep);
+    *space = Some(check.into_space());
+    asked
+}
+
+// Asks the query of a seat for a sum, where the extensions of the lists that it is over have this
+// product.
+#[inline(never)]
+fn ask_sum<L: Link, C: Sink>(
+    version: Version,
+    seat: &QuerySeat,
+    product: M61,
+    entries: &mut [Entry],
+    frame: &mut Frame,
+    link: &mut L,
+    keep: &mut C,
+) -> Result<Said, AskStop>
+    requires seat { IsTrue (is_seat (length seat.now.block) seat.now) }
+    requires speaks { Speaks version (length seat.now.block) seat.now.query }
+    ensures asks { (depth : ℕ) (stream : List AnyUpdate) (l : Lists)
+        → lists_of depth stream seat.now.query ≡ Some l
+        → m61_number product ≡ product_at m61_modulus l.first l.second seat.now.block
+        → Asks version depth stream seat.now.query seat.now.block
+        (L.talk link.old) (L.talk link.new)
+        (take (found_in (length entries.new) result) entries.new) (verdict_of result) }
+    ensures places { length entries.new ≡ length entries.old }
+    ensures keeps { AskClause version
+        (sink L.talk L.faults L.wants link.old) (sink L.talk L.faults L.wants link.new)
+        (sink C.talk C.faults C.wants keep.old) (sink C.talk C.faults C.wants keep.new)
+        (came_of (verdict_of result)) }
+    ensures link { Lasts L.faults L.wants L.is_sure link.old link.new }
+    ensures keep { Lasts C.faults C.wants C.is_sure keep.old keep.new }
+{
+    let mut check = SumAsking::start(seat.block(), product);
+    ask(&mut check, version, &seat.query, entries, frame, link, keep)
+}
+
+/// How many of so many places have pairs of the answer.
+pub(crate) fn found_in(places: usize, asked: &Result<Said, AskStop>) -> usize
+    ensures { result ≡ found_in places asked.now }
+{
+    match asked {
+        Ok(Said::Pairs(found)) => (*found).min(places),
+        _ => 0,
+    }
+}
+
+/// What a session answers then.
+pub(crate) fn verdict_of(asked: Result<Said, AskStop>) -> Result<Verdict, SessionFault>
+    ensures { result ≡ verdict_of asked }
+{
+    match asked {
+        Ok(Said::Number(value)) => Ok(Verdict::Number(value)),
+        Ok(Said::Pairs(_)) => Ok(Verdict::Pairs),
+        Err(AskStop::Rejected { round, reason }) => Ok(Verdict::Rejected { round, reason }),
+        Err(AskStop::PeerFault) => Err(SessionFault::PeerFault),
+        Err(AskStop::KeepFault) => Err(SessionFault::KeepFault),
+        Err(AskStop::OutOfMemory | AskStop::KeepOutOfMemory) => Err(SessionFault::OutOfMemory),
+    }
+}
