@@ -11,6 +11,7 @@ KINDS = {
     0x11: "Claim", 0x12: "Poly", 0x13: "Entries", 0x14: "Siblings", 0x15: "Leaves", 0x16: "Nodes",
     0x17: "LevelEnd", 0x18: "Refuse",
     0x21: "AskLook", 0x22: "Found", 0x23: "End", 0x24: "AskMoment", 0x25: "Power",
+    0x26: "Held", 0x27: "Recall",
 }  # fmt: skip
 CODES = {name: code for code, name in KINDS.items()}
 
@@ -28,6 +29,10 @@ PLACES = {
     "AskedLook": {"AskLook", "End"},
     "Found": {"Found", "Refuse"},
     "AskedMoment": {"AskMoment", "End"},
+    "AskedQuestion": {
+        "Open", "Updates", "EndStream", "Query", "Reveal", "Bye", "AskLook", "AskMoment", "Recall"
+    },
+    "Held": {"Held"},
     "Power": {"Power", "Refuse"},
 }
 
@@ -51,7 +56,7 @@ ROWS = {
 NUMBERS = {
     "Open": (1, 1), "EndStream": (), "Reveal": (8,), "Bye": (), "Claim": (8,), "Poly": (8, 8, 8),
     "LevelEnd": (), "Refuse": (1,), "AskLook": (1, 8), "Found": (1, 8), "End": (),
-    "AskMoment": (1, 1),
+    "AskMoment": (1, 1), "Held": (8, 8, 8, 8), "Recall": (8,),
 }  # fmt: skip
 
 

@@ -1,5 +1,4 @@
-"""The three helpers' ends: what each may hear at which moment, what it writes, and how its talk
-ends."""
+"""The helpers' ends: what each may hear at which moment, what it writes, and how its talk ends."""
 
 from typing import NamedTuple
 
@@ -7,6 +6,7 @@ from . import honest
 from .field import WEIGHT
 from .frames import Fault, read, spelling
 from .questions import LOOKUPS, Question
+from .sketches import fingerprint
 from .streams import vectors
 
 # The most queries, lookups or moments of a talk.
@@ -75,6 +75,7 @@ class Talk:
             return None
         if question.kind in ("sub", "range") and question.hi >= 2**self.depth:
             return None
+        self.queries += 1
         return self.begin(question)
 
     def hear_reveal(self, challenge):
@@ -88,7 +89,6 @@ class Talk:
         return []
 
     def begin(self, question):
-        self.queries += 1
         self.open, self.revealed = question, []
         self.replies = honest.replies(question, self.both, self.depth, self.revealed)
         return self.owed()
@@ -150,14 +150,76 @@ class MomentTalk(AskedTalk):
         moment = Question("moment", side, degree=degree)
         if self.queries == QUERIES or side > 1 or not 3 <= degree <= 8:
             return None
-        return None if moment.is_too_high(self.both) else self.begin(moment)
+        if moment.is_too_high(self.both):
+            return None
+        self.queries += 1
+        return self.begin(moment)
+
+
+class QuestionTalk(Talk):
+    """A talk in which questions of every kind may come behind the stream, where none is open. A
+    Found opens nothing."""
+
+    def __init__(self):
+        super().__init__()
+        self.lookups = self.moments = 0
+
+    def place(self):
+        return "AskedQuestion"
+
+    def hear_asklook(self, code, item):
+        if not self.both or self.open or self.lookups == QUERIES:
+            return None
+        if not 1 <= code <= len(LOOKUPS) or item >= 2**self.depth:
+            return None
+        self.lookups += 1
+        return [honest.found(Question(LOOKUPS[code - 1], item=item).place(self.both))]
+
+    def hear_askmoment(self, side, degree):
+        moment = Question("moment", side, degree=degree)
+        if not self.both or self.open or self.moments == QUERIES or side > 1:
+            return None
+        if not 3 <= degree <= 8 or moment.is_too_high(self.both):
+            return None
+        self.moments += 1
+        return self.begin(moment)
+
+    def hear_recall(self, count):
+        return None
+
+
+class StoreTalk(QuestionTalk):
+    """The same over a store: how many of its records are the stream is said by a Recall."""
+
+    def __init__(self, store):
+        super().__init__()
+        self.store = store
+
+    def hear_updates(self, updates):
+        return None
+
+    def hear_endstream(self):
+        return None
+
+    def hear_recall(self, count):
+        if self.depth is None or self.both:
+            return None
+        self.updates = self.store[:count]
+        self.both = vectors(self.updates)
+        held = len(self.updates), *(side.weight for side in self.both), fingerprint(self.updates)
+        return [("Held", *held)]
 
 
 TALKS = {"help": Talk, "helplook": LookTalk, "helpmom": MomentTalk}
 
 
 def serve(data, verb):
-    talk, at, written, turns = TALKS[verb](), 0, b"", []
+    return served(data, TALKS[verb]())
+
+
+def served(data, talk):
+    """How a talk goes that hears these bytes."""
+    at, written, turns = 0, b"", []
 
     def ends(status, upto, reason="", last=b""):
         return Served(status, at, written + last, [*turns, (len(written), upto)], reason)

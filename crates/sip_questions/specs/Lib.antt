@@ -1,0 +1,5 @@
+pub mod Questions
+pub mod Counting
+pub mod Honest
+pub mod Serving
+pub mod Examples
