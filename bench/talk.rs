@@ -1,4 +1,4 @@
-//! Both ends of a talk, and copies of a stream, in plain Rust: the frames, the reports and the bytes of `sip`, with nothing proved.
+//! Both ends of a talk, and copies of a stream and of a transcript, in plain Rust: the frames, the reports and the bytes of `sip`, with nothing proved.
 //!
 //!     talk plain|limit help FROM TO
 //!     talk plain|limit verify STREAM SEED FROM TO - DEPTH QUERY..
@@ -6,6 +6,7 @@
 //!     talk plain|limit moments|lookup STREAM SEED FROM TO DEPTH QUESTION..
 //!     talk plain|limit gen NUMBER COUNT DEPTH
 //!     talk plain|limit lines STREAM DEPTH
+//!     talk plain|limit convert TRANSCRIPT
 //!
 //! The words behind the first are those of `sip`; the first says by which designs (`plain/mod.rs`). STREAM is a file of records, or
 //! `text:` and one of lines; of a depth above 32 a file of records is `wide:` and its path. A query is `sub:LO:HI`,
@@ -106,6 +107,7 @@ fn obey<D: Design>(words: &[String]) -> Result<()> {
         }
         [verb, seed, count, levels] if verb == "gen" => generate(number(seed)?, number(count)?, depth(levels)?),
         [verb, stream, levels] if verb == "lines" => lines::<D>(stream, depth(levels)?),
+        [verb, transcript] if verb == "convert" => plain::transcripts::convert(transcript),
         _ => Err(bad("no such command")),
     }
 }

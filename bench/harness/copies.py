@@ -1,4 +1,4 @@
-"""`gen` and `lines`, as whole programs."""
+"""`gen`, `lines` and `convert`, as whole programs."""
 
 import filecmp
 import os
@@ -8,8 +8,35 @@ from harness.settings import reachable, stream_word
 from harness.tables import Table
 
 
+# A stream whose items are heavy at most levels, and queries whose replies are a transcript of some 40 MB.
+HEAVY = ["heavy:0:35"] * 16
+HEAVY_DEPTH = 20
+HEAVY_RECORDS = 1_000_000
+
+
 def measure(programs, settings, work):
     programs = programs.talks()
+    return measure_streams(programs, settings, work) + measure_transcript(programs, settings, work)
+
+
+def measure_transcript(programs, settings, work):
+    seed, record, wanted = (os.path.join(work, name) for name in ("seed", "record", "converted"))
+    with open(seed, "wb") as file:
+        file.write(bytes(range(32)))
+    run([*programs["sip"], "play", f"made:7:{HEAVY_RECORDS}", seed, "honest", record, HEAVY_DEPTH, *HEAVY])
+    run([*programs["sip"], "convert", record], wanted)
+    size = os.path.getsize(record)
+    table = Table(f"copies of a transcript of {size} bytes", "ns of CPU a byte", programs)
+    for program, begins in programs.items():
+        compare(program, [*begins, "convert", record], wanted, work)
+    for _ in range(settings.rounds):
+        for program, begins in programs.items():
+            table.saw("convert", program, run([*begins, "convert", record]).cpu * 1e9 / size)
+    table.show()
+    return table.above
+
+
+def measure_streams(programs, settings, work):
     records = settings.records[0]
     table = Table(f"copies of {records} records", "ns of CPU a record", programs)
     for depth in settings.depths:

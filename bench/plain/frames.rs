@@ -99,9 +99,7 @@ impl Link {
     }
 
     pub fn send_frame(&mut self, frame: &mut Frame) -> Result<()> {
-        let len = (frame.bytes.len() - 3) as u16;
-        frame.bytes[1..3].copy_from_slice(&len.to_be_bytes());
-        self.to.write_all(&frame.bytes)
+        self.to.write_all(frame.whole())
     }
 }
 
@@ -119,5 +117,12 @@ impl Frame {
 
     pub fn put(&mut self, bytes: &[u8]) {
         self.bytes.extend_from_slice(bytes);
+    }
+
+    /// The bytes of the frame, with the length of its body.
+    pub fn whole(&mut self) -> &[u8] {
+        let len = (self.bytes.len() - 3) as u16;
+        self.bytes[1..3].copy_from_slice(&len.to_be_bytes());
+        &self.bytes
     }
 }

@@ -19,6 +19,7 @@ pub mod questions;
 pub mod siblings;
 pub mod streams;
 pub mod sums;
+pub mod transcripts;
 pub mod vector;
 pub mod verifier;
 

@@ -1,12 +1,14 @@
 -- Frames that are taken off a source: that of a query, and those of replies.
-use Rattle.std.proofs.Common.{◌≡◌, ℕ, zero, suc, ◌+◌, ◌<◌, ◌≤◌, Bool, true, false, ◌&&◌, cond, Option, Some, None, Result, Ok, Err, List, [], ◌∷◌, ◌++◌, length, take, drop, refl, sym, ap, subst, ◌∙◌, arith, length-append}
+use Rattle.std.proofs.Common.{◌≡◌, ◌⊎◌, inl, inr, ℕ, zero, suc, ◌+◌, ◌<◌, ◌≤◌, Bool, true, false, ◌&&◌, cond, Option, Some, None, Result, Ok, Err, List, [], ◌∷◌, ◌++◌, length, take, drop, refl, sym, ap, subst, ◌∙◌, arith, length-append}
 use Rattle.std.proofs.KnownBytes.{Consumes-nil, Consumes-trans}
-use Rattle.std.specs.Prelude.{slice_index}
-use Rattle.std.specs.Io.KnownBytes.{Consumes}
+use Rattle.std.specs.Prelude.{IsSome, slice_index}
+use Rattle.std.specs.Io.KnownBytes.{Consumes, IsAtEnd}
 use Rattle.std.proofs.lemmas.Bool.Decides.{nat_tests}
 use Rattle.std.proofs.lemmas.List.{append-nil}
 use Rattle.sip_verifier.specs.Tasks.{CanBeAsked}
 use Rattle.sip_vector.specs.declared.query.Query.{Query}
+use Rattle.sip_wire.specs.declared.frame.Taken.{Taken}
+use Rattle.sip_wire.specs.declared.frame.Taken.TheVariants.{NoFrame, Part, Whole}
 use Rattle.sip_wire.specs.declared.kind.Kind.{Kind}
 use Rattle.sip_wire.specs.declared.kind.Kind.TheVariants as kinds
 use Rattle.sip_wire.specs.declared.kind.Place.{Place}
@@ -19,9 +21,11 @@ use Rattle.sip_wire.specs.declared.version.Version.{Version}
 use Rattle.sip_wire.specs.declared.version.Version.TheVariants.{One, Two}
 use Rattle.sip_wire.specs.AtHand.{Reads}
 use Rattle.sip_wire.specs.Decoding.{Took}
+use Rattle.sip_wire.specs.Faults.{IsOfBytes}
 use Rattle.sip_wire.specs.Reading.{read_frame, read_of}
 use Rattle.sip_wire.specs.Spelling.{asked, asked_by, frame_fault, length_in, mark_in, said_in, spelling}
 use Rattle.sip_wire.specs.Table.{allows, kind_at, longest_frame, shape}
+use Rattle.sip_wire.specs.Taking.{Judges}
 use Rattle.sip_wire.specs.Values.{message_from, siblings_from}
 use Rattle.sip_wire.proofs.Shapes.{is_shape}
 use Rattle.sip_wire.proofs.ReadingLaws.{asked-least, asked-append, read_frame-append, read_frame-append_fault}
@@ -126,28 +130,50 @@ asked-short version place bytes = by_kind (kind_at place (slice_index bytes 0))
         by_tests true false e = omega arith
         by_tests false b e = omega arith
 
--- no reply is longer than there is room for
-pub reply-long : (version : Version) (o n : Option (List ℕ)) (frame : List ℕ) → HasFrame ToVerifier version longest_frame o n frame (Ok false) → ReadsReply version o n frame (Ok next.Faulty)
-reply-long version o n frame has = λ bytes told. absurd (let short = asked-short version ToVerifier bytes in let long = has.1 bytes told in omega arith)
+-- a source that is told is told behind a read
+pub still-told : (o n : Option (List ℕ)) (piece : List ℕ) → Consumes o n piece → IsSome o → IsSome n
+still-told None n piece took some = absurd cc
+still-told (Some xs) None piece took some = absurd took
+still-told (Some xs) (Some ys) piece took some = refl
+
+-- the source ended in a frame
+pub reply-cut : (version : Version) (o m n : Option (List ℕ)) (frame : List ℕ) → Consumes o m frame → length frame ≤ asked version ToVerifier frame → Consumes m n [] → IsAtEnd n → HasFrame ToVerifier version longest_frame o n frame (Ok true)
+reply-cut version o m n frame came most none ended =
+    let all : Consumes o n frame = subst (λ (l : List ℕ). Consumes o n l) (append-nil frame) (Consumes-trans o m n frame [] came none) in (
+      all,
+      most,
+      λ less bytes told.
+          let front = came_front o n bytes frame told all in
+          let rest : front.0 ≡ [] = subst IsAtEnd front.1 ended in
+          front.2 ∙ ap (λ (l : List ℕ). frame ++ l) rest ∙ append-nil frame,
+    )
 
 -- there is no reply
-pub reply-end : (version : Version) (o n : Option (List ℕ)) (frame : List ℕ) → HasFrame ToVerifier version longest_frame o n frame (Ok true) → frame ≡ [] → ReadsReply version o n frame (Ok next.End)
-reply-end version o n frame has none =
+pub reply-end : (version : Version) (o n : Option (List ℕ)) (frame : List ℕ) (m : Message) → HasFrame ToVerifier version longest_frame o n frame (Ok true) → frame ≡ [] → ReadsReply version o n frame m (Ok next.End)
+reply-end version o n frame m has none =
     let least = asked-least version ToVerifier frame in (
       subst (WasAll o) none (has.2 (omega (arith, ap length none, least))),
       subst (λ (l : List ℕ). Consumes o n l) none has.0,
     )
 
 -- bytes begin with no whole frame
-pub reply-faulty : (version : Version) (o n : Option (List ℕ)) (frame : List ℕ) (f : WireFault) → HasFrame ToVerifier version longest_frame o n frame (Ok true) → 0 < length frame → read_frame version ToVerifier frame ≡ Err f
-    → (f ≡ faults.Closed → length frame < asked version ToVerifier frame) → ReadsReply version o n frame (Ok next.Faulty)
-reply-faulty version o n frame f has some read short = λ bytes told.
+pub reply-faulty : (version : Version) (o n : Option (List ℕ)) (frame : List ℕ) (m : Message) (f : WireFault) → HasFrame ToVerifier version longest_frame o n frame (Ok true) → 0 < length frame → read_frame version ToVerifier frame ≡ Err f
+    → (f ≡ faults.Closed → length frame < asked version ToVerifier frame) → ReadsReply version o n frame m (Ok next.Faulty)
+reply-faulty version o n frame m f has some read short = λ bytes told.
     let front = came_front o n bytes frame told has.0 in
     let none : f ≡ faults.Closed → front.0 ≡ [] = λ is. nothing_behind frame front.0 (sym front.2 ∙ has.2 (short is) bytes told) in (
       (λ empty. absurd (omega (arith, ap length empty, ap length front.2, length-append frame front.0, some))),
       f,
       ap (read_frame version ToVerifier) front.2 ∙ fault-stays ToVerifier version frame front.0 f read none,
     )
+
+-- bytes that were judged, and are no message
+pub reply-refused : (version : Version) (o n : Option (List ℕ)) (before frame : List ℕ) (m : Message) (taken : Taken) → frame ≡ before → HasFrame ToVerifier version longest_frame o n before (Ok true) → 0 < length before
+    → Judges version ToVerifier before m taken → (taken ≡ Part) ⊎ ((fault : WireFault) × (taken ≡ NoFrame fault)) → ReadsReply version o n frame m (Ok next.Faulty)
+reply-refused version o n before frame m Part same has some part other = reply-faulty version o n before m faults.Closed has some part.read (λ is. part.short)
+reply-refused version o n before frame m Whole same has some took (inl is) = absurd cc
+reply-refused version o n before frame m Whole same has some took (inr (fault, is)) = absurd cc
+reply-refused version o n before frame m (NoFrame fault) same has some shows other = reply-faulty version o n before m fault has some shows.read (λ is. absurd (subst IsOfBytes is shows.shown))
 
 -- ---- what a frame asks
 

@@ -11,11 +11,8 @@ use Rattle.sip_field.specs.declared.mersenne.M61.{M61}
 use Rattle.sip_ports.specs.declared.port.TalkEvent.{TalkEvent}
 use Rattle.sip_stream.specs.Records.{records}
 use Rattle.sip_stream.proofs.LegalRecords.{records_legal}
-use Rattle.sip_vector.specs.Built.{is_built}
 use Rattle.sip_vector.specs.Pieces.{cut}
 use Rattle.sip_vector.specs.declared.update.Update.{Update}
-use Rattle.sip_vector.specs.declared.query.Query.{Query}
-use Rattle.sip_vector.specs.declared.query.Query.TheVariants.{Sub, Range, F2, Inner, Heavy, Share}
 use Rattle.sip_wire.specs.declared.version.Version.{Version}
 use Rattle.sip_wire.specs.Table.{is_element, most_queries}
 use Rattle.sip_wire.specs.Versions.{Speaks}

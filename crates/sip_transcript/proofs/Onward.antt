@@ -263,16 +263,16 @@ module _ (to : Rendering) (bytes : List ℕ) (left : Option (List ℕ)) (start n
 -- ---- one reply
 
 -- what a reply that was not passed comes to
-pub reply-stops : (to : Rendering) (bytes : List ℕ) (o n : Option (List ℕ)) (start now : Option (List TalkEvent)) (version : Version) (place : ℕ) (frame : List ℕ) → IsUnderway to bytes o start now version place
-    → ReadsReply version o n frame (Ok next.Faulty) → Writes (rendered to) bytes n start now (statuses.BadTranscript place)
-reply-stops to bytes o n start now version place frame so reads =
+pub reply-stops : (to : Rendering) (bytes : List ℕ) (o n : Option (List ℕ)) (start now : Option (List TalkEvent)) (version : Version) (place : ℕ) (frame : List ℕ) (m : Message) → IsUnderway to bytes o start now version place
+    → ReadsReply version o n frame m (Ok next.Faulty) → Writes (rendered to) bytes n start now (statuses.BadTranscript place)
+reply-stops to bytes o n start now version place frame m so reads =
     let is = reads so.rest so.is_left in
     faulty to bytes o start now version place so is.1 is.0 is.2 n
 
 -- the end
-pub reply-ends : (to : Rendering) (bytes : List ℕ) (o n : Option (List ℕ)) (start now : Option (List TalkEvent)) (version : Version) (place : ℕ) (frame : List ℕ) → IsUnderway to bytes o start now version place
-    → ReadsReply version o n frame (Ok next.End) → Writes (rendered to) bytes n start now statuses.Wrote
-reply-ends to bytes o n start now version place frame so reads =
+pub reply-ends : (to : Rendering) (bytes : List ℕ) (o n : Option (List ℕ)) (start now : Option (List TalkEvent)) (version : Version) (place : ℕ) (frame : List ℕ) (m : Message) → IsUnderway to bytes o start now version place
+    → ReadsReply version o n frame m (Ok next.End) → Writes (rendered to) bytes n start now statuses.Wrote
+reply-ends to bytes o n start now version place frame m so reads =
     let none : so.rest ≡ [] = reads.0 so.rest so.is_left in
     let front = came_front o n so.rest [] so.is_left reads.1 in
     let all = ends to bytes o start now version place so (so.is_left ∙ ap (λ (l : List ℕ). Some l) none) in
@@ -285,19 +285,19 @@ source-stopped to bytes o n start now version place stop so = source-stops to by
 
 -- the sink stopped
 pub sink-stopped : (to : Rendering) (bytes : List ℕ) (o n : Option (List ℕ)) (start now later : Option (List TalkEvent)) (version : Version) (place : ℕ) (frame : List ℕ) (m : Message) (stop : PortStop)
-    → IsUnderway to bytes o start now version place → ReadsReply version o n frame (Ok (next.Said m)) → (k : ℕ) → k < length (reply_text to version m) → GoesOn now later (outs (take k (reply_text to version m)))
+    → IsUnderway to bytes o start now version place → ReadsReply version o n frame m (Ok next.Said) → (k : ℕ) → k < length (reply_text to version m) → GoesOn now later (outs (take k (reply_text to version m)))
     → Writes (rendered to) bytes n start later (status_of_sink stop)
 sink-stopped to bytes o n start now later version place frame m stop so reads k fewer wrote =
     sink-stops to bytes n start later stop (cut to bytes o start now version place so frame m n later reads.0 reads.1 n k fewer wrote)
 
 -- a message was passed
 pub reply-passed : (to : Rendering) (bytes : List ℕ) (o n : Option (List ℕ)) (start now later : Option (List TalkEvent)) (version : Version) (place : ℕ) (frame : List ℕ) (m : Message)
-    → IsUnderway to bytes o start now version place → ReadsReply version o n frame (Ok (next.Said m)) → GoesOn now later (outs (reply_text to version m)) → IsUnderway to bytes n start later version (place + length frame)
+    → IsUnderway to bytes o start now version place → ReadsReply version o n frame m (Ok next.Said) → GoesOn now later (outs (reply_text to version m)) → IsUnderway to bytes n start later version (place + length frame)
 reply-passed to bytes o n start now later version place frame m so reads wrote = passed to bytes o start now version place so frame m n later reads.0 reads.1 wrote
 
 -- the place of what is left has no room in its number
 pub place-lost : (to : Rendering) (bytes : List ℕ) (o n : Option (List ℕ)) (start now later : Option (List TalkEvent)) (version : Version) (place : ℕ) (frame : List ℕ) (m : Message)
-    → IsUnderway to bytes o start now version place → ReadsReply version o n frame (Ok (next.Said m)) → GoesOn now later (outs (reply_text to version m)) → Writes (rendered to) bytes n start later statuses.OutOfMemory
+    → IsUnderway to bytes o start now version place → ReadsReply version o n frame m (Ok next.Said) → GoesOn now later (outs (reply_text to version m)) → Writes (rendered to) bytes n start later statuses.OutOfMemory
 place-lost to bytes o n start now later version place frame m so reads wrote =
     front-so_far to bytes n start later version (place + length frame) (reply-passed to bytes o n start now later version place frame m so reads wrote)
 

@@ -1,7 +1,6 @@
 -- Two runs of one inquiry in two versions, over the same messages: they come to the same verdicts.
-use Rattle.std.proofs.Common.{◌≡◌, ℕ, ◌+◌, None, List, [], ◌∷◌, ◌++◌, inl, inr, refl, sym, ap, subst, ◌∙◌, append_assoc}
+use Rattle.std.proofs.Common.{◌≡◌, ℕ, None, List, [], ◌∷◌, ◌++◌, inl, inr, refl, sym, ap, subst, ◌∙◌, append_assoc}
 use Rattle.sip_ports.specs.declared.port.TalkEvent.{TalkEvent}
-use Rattle.sip_ports.specs.Ports.{heard}
 use Rattle.sip_stream.specs.Records.{records}
 use Rattle.sip_vector.specs.Pieces.{cut}
 use Rattle.sip_vector.specs.Extensions.{ones}

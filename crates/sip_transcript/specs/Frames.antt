@@ -5,6 +5,7 @@ use Rattle.std.specs.Io.KnownBytes.{Consumes}
 use Rattle.sip_ports.specs.declared.port.PortStop.{PortStop}
 use Rattle.sip_wire.specs.declared.kind.Place.{Place}
 use Rattle.sip_wire.specs.declared.kind.Place.TheVariants.{ToVerifier}
+use Rattle.sip_wire.specs.declared.message.Message.{Message}
 use Rattle.sip_wire.specs.declared.message.WireFault.{WireFault}
 use Rattle.sip_wire.specs.declared.version.Version.{Version}
 use Rattle.sip_wire.specs.Decoding.{Took}
@@ -46,14 +47,14 @@ HasFrame place version room old new frame (Ok false) = TakesAtMost room old new
     × ((bytes : List ℕ) → old ≡ Some bytes → room < asked version place bytes)
 HasFrame place version room old new frame (Err stop) = ⊤
 
--- Taking a reply: there is none; or the bytes begin with no whole frame to a verifier; or this
--- message's spelling was taken.
-abbrev pub ReadsReply : Version → Option (List ℕ) → Option (List ℕ) → List ℕ
+-- Taking a reply: there is none; or the bytes begin with no whole frame to a verifier; or the
+-- spelling of the message that the frame has was taken.
+abbrev pub ReadsReply : Version → Option (List ℕ) → Option (List ℕ) → List ℕ → Message
     → Result Reply PortStop → Type 0
-ReadsReply version old new frame (Ok next.End) = WasAll old [] × Consumes old new []
-ReadsReply version old new frame (Ok next.Faulty) =
+ReadsReply version old new frame m (Ok next.End) = WasAll old [] × Consumes old new []
+ReadsReply version old new frame m (Ok next.Faulty) =
     (bytes : List ℕ) → old ≡ Some bytes
     → (bytes ≢ []) × (fault : WireFault) × (read_frame version ToVerifier bytes ≡ Err fault)
-ReadsReply version old new frame (Ok (next.Said m)) =
+ReadsReply version old new frame m (Ok next.Said) =
     Took version ToVerifier frame m × Consumes old new frame
-ReadsReply version old new frame (Err stop) = ⊤
+ReadsReply version old new frame m (Err stop) = ⊤

@@ -1,15 +1,21 @@
 //! Frames off a source.
 
-ghost use Rattle.std.specs.Prelude.{◌≡◌, ◌≤◌, [], length, IsSome, OnOk};
+ghost use Rattle.std.specs.Prelude.{◌≡◌, ◌≤◌, Ok, [], true, length, IsSome, OnOk};
 ghost use Rattle.sip_ports.specs.Ports.{HasCause};
+ghost use Rattle.sip_wire.specs.declared.kind.Place.TheVariants.{ToVerifier};
+ghost use Rattle.sip_wire.specs.Frames.{frame_bytes, frame_message};
+ghost use Rattle.sip_wire.specs.Table.{longest_frame};
 ghost use Rattle.sip_transcript.specs.Frames.{HasFrame, ReadsByte, ReadsReply, TakesMore};
 
 use arrayvec::ArrayVec;
 use sip_ports::{PortStop, Source, read_exact_into};
-use sip_wire::{LONGEST_FRAME, Message, Place, Version, frame_length, read};
+use sip_wire::{Frame, Place, Taken, Version, frame_length};
 
 /// How many bytes of a frame say how many it has.
 const FRAME_HEAD: usize = 3;
+
+/// How many bytes of a reply are taken at once.
+const PIECE: usize = 1024;
 
 /// What stands next in the replies of a transcript.
 #[derive(Drop)]
@@ -18,8 +24,8 @@ pub(crate) enum Reply {
     End,
     /// Bytes that begin with no whole frame to a verifier.
     Faulty,
-    /// A message to a verifier.
-    Said(Message),
+    /// A message to a verifier, which the frame has.
+    Said,
 }
 
 /// The next byte, or `None` at the end.
@@ -88,27 +94,45 @@ pub(crate) fn take_frame<S: Source, const ROOM: usize>(
     Ok(true)
 }
 
-/// What stands next in the replies. A message's frame is then in `frame`.
-pub(crate) fn take_reply<S: Source>(
-    source: &mut S,
-    version: Version,
-    frame: &mut ArrayVec<u8, LONGEST_FRAME>,
-) -> Result<Reply, PortStop>
-    ensures reads { ReadsReply version (S.left source.old) (S.left source.new)
-        frame.new.items result }
+/// Takes the next frame of the replies, or what the source has of it.
+fn fill<S: Source>(source: &mut S, version: Version, frame: &mut Frame) -> Result<(), PortStop>
+    ensures has { OnOk result (HasFrame ToVerifier version longest_frame (S.left source.old)
+        (S.left source.new) (frame_bytes frame.new) (Ok true)) }
     ensures told { IsSome (S.left source.old) → IsSome (S.left source.new) }
     ensures cause { HasCause S.faults S.wants S.is_sure source.old source.new result }
 {
     frame.clear();
-    let fits = take_frame(source, Place::ToVerifier, version, frame)?;
-    if !fits {
-        return Ok(Reply::Faulty);
+    let mut piece = [0; PIECE];
+    loop {
+        let room = frame.room(Place::ToVerifier, version).min(PIECE);
+        if room == 0 {
+            return Ok(());
+        }
+        let came = source.read(&mut piece[..room])?;
+        if came == 0 {
+            return Ok(());
+        }
+        frame.put(Place::ToVerifier, version, &piece[..came]);
     }
-    if frame.is_empty() {
+}
+
+/// What stands next in the replies. A message, and the bytes that spell it, are then in `frame`.
+pub(crate) fn take_reply<S: Source>(
+    source: &mut S,
+    version: Version,
+    frame: &mut Frame,
+) -> Result<Reply, PortStop>
+    ensures reads { ReadsReply version (S.left source.old) (S.left source.new)
+        (frame_bytes frame.new) (frame_message frame.new) result }
+    ensures told { IsSome (S.left source.old) → IsSome (S.left source.new) }
+    ensures cause { HasCause S.faults S.wants S.is_sure source.old source.new result }
+{
+    fill(source, version, frame)?;
+    if frame.bytes().is_empty() {
         return Ok(Reply::End);
     }
-    match read(Place::ToVerifier, version, frame.as_slice()) {
-        Ok(message) => Ok(Reply::Said(message)),
-        Err(_fault) => Ok(Reply::Faulty),
+    match frame.judge(Place::ToVerifier, version) {
+        Taken::Whole => Ok(Reply::Said),
+        Taken::Part | Taken::NoFrame(_) => Ok(Reply::Faulty),
     }
 }

@@ -5,7 +5,8 @@
 //! queries, and each query with a challenge for each level. [`TranscriptReader::head`] reads it off
 //! any source, field by field, and takes no byte that is not of the head. [`show`] lists a whole
 //! transcript, and [`convert`] writes it in version 2: both read the head first, and then a frame
-//! at a time, so that the memory is that of one frame. [`show_line`] writes the line of one frame.
+//! at a time, so that the memory is that of one frame with its messages. [`show_line`] writes the
+//! line of one frame.
 //! [`TranscriptLink`] is a link whose replies come out of a source, so that a stored run can be
 //! judged again; it takes no memory, and counts the bytes that were heard. [`audit`] judges one: it
 //! asks the head's queries, at the head's challenges, over such a link.

@@ -16,10 +16,9 @@ use crate::frames::{Reply, take_reply};
 use crate::rendering::Rendering;
 use crate::stopping::{status_of_head, status_of_sink, status_of_source};
 use crate::{Head, TranscriptReader};
-use arrayvec::ArrayVec;
 use sip_ports::{Sink, Source};
 use sip_verifier::Status;
-use sip_wire::{LONGEST_FRAME, Version};
+use sip_wire::{Frame, Version};
 use std::alloc::Global;
 
 /// Reads the head, and then writes what there is of it.
@@ -49,7 +48,7 @@ fn pass_reply<B: Source, K: Sink>(
     to: Rendering,
     version: Version,
     place: u64,
-    frame: &mut ArrayVec<u8, LONGEST_FRAME>,
+    frame: &mut Frame,
     second: &mut B,
     report: &mut K,
 ) -> Result<Option<u64>, Status>
@@ -68,15 +67,16 @@ fn pass_reply<B: Source, K: Sink>(
         Ok(reply) => reply,
         Err(stop) => return Err(status_of_source(stop)),
     };
-    let message = match reply {
+    match reply {
         Reply::End => return Ok(None),
         Reply::Faulty => return Err(Status::BadTranscript { offset: place }),
-        Reply::Said(message) => message,
-    };
-    if let Err(stop) = to.write_reply(&message, frame.as_slice(), report) {
+        Reply::Said => {}
+    }
+    let bytes = frame.bytes();
+    if let Err(stop) = to.write_reply(frame.message(), bytes, report) {
         return Err(status_of_sink(stop));
     }
-    match place.checked_add(frame.len() as u64) {
+    match place.checked_add(bytes.len() as u64) {
         Some(after) => Ok(Some(after)),
         None => Err(Status::OutOfMemory),
     }
@@ -85,7 +85,7 @@ fn pass_reply<B: Source, K: Sink>(
 /// Writes what there is of the transcript of `second`, up to the first stop.
 fn write_all<B: Source, K: Sink>(
     to: Rendering,
-    frame: &mut ArrayVec<u8, LONGEST_FRAME>,
+    frame: &mut Frame,
     second: &mut B,
     report: &mut K,
 ) -> Result<(), Status>
@@ -107,7 +107,7 @@ fn write_all<B: Source, K: Sink>(
     Ok(())
 }
 
-/// The same, with room for a frame on the heap.
+/// The same, with room for a frame.
 fn render<B: Source, K: Sink>(
     alloc: Global,
     to: Rendering,
@@ -125,7 +125,7 @@ fn render<B: Source, K: Sink>(
     ensures second { Lasts B.faults B.wants B.is_sure second.old second.new }
     ensures report { Lasts K.faults K.wants K.is_sure report.old report.new }
 {
-    let Ok(mut frame) = Box::new(alloc, ArrayVec::new()) else {
+    let Ok(mut frame) = Frame::new(alloc) else {
         return Status::OutOfMemory;
     };
     match write_all(to, &mut frame, second, report) {
@@ -136,7 +136,7 @@ fn render<B: Source, K: Sink>(
 
 /// Lists the transcript of `second`: a line for the depth, one for each query with its challenges,
 /// and one for each frame of the replies. Nothing is written before the whole head was read. The
-/// memory is that of one frame.
+/// memory is that of one frame with its messages.
 ///
 /// `Wrote` comes exactly where the source has a transcript to its end, and then it was listed;
 /// `BadTranscript` exactly where it has not, with the place where it stops being one, up to which
@@ -161,7 +161,7 @@ pub fn show<B: Source, K: Sink>(alloc: Global, second: &mut B, report: &mut K) -
 
 /// Writes the transcript of `second` in version 2: the same depth, queries, challenges and messages
 /// in frames with wide items. One of version 2 is copied. Nothing is written before the whole head
-/// was read. The memory is that of one frame.
+/// was read. The memory is that of one frame with its messages.
 ///
 /// The answers are those of [`show`], with the transcript in version 2 in place of the listing.
 pub fn convert<B: Source, K: Sink>(alloc: Global, second: &mut B, report: &mut K) -> Status
