@@ -1,0 +1,4 @@
+pub mod Examples
+pub mod Fields
+pub mod Reading
+pub mod Sketches

@@ -1,0 +1,67 @@
+//! Worked examples of the file, which hold by computation. These functions do nothing: each
+//! contract is a fact that holds.
+
+ghost use Rattle.std.specs.Prelude.{◌≡◌, ℕ, List, [], ◌∷◌, ◌++◌, take, Ok, Err};
+ghost use Rattle.sha2.specs.Sha256.{sha256};
+ghost use Rattle.sip_sketch.specs.Fields.{read};
+ghost use Rattle.sip_sketch.specs.Sketches.{bytes, numbers, sketch_file};
+ghost use Rattle.sip_sketch.specs.Examples.{begun, begun_bytes, begun_digest, changed, heavy_bytes};
+ghost use Rattle.sip_sketch.specs.Examples.{modulus_bytes, watched};
+ghost use Rattle.sip_sketch.specs.Examples.{watched_bytes, watched_digest};
+
+/// The sketches of the empty stream and of three records are spelled by their bytes, with the
+/// digests of these behind them.
+pub fn sketches_by_hand()
+    ensures begun { bytes begun ≡ begun_bytes ++ sha256 begun_bytes }
+    ensures watched { bytes watched ≡ watched_bytes ++ sha256 watched_bytes }
+{}
+
+/// The digests.
+#[tactic(auto, unfolding(sha2::specs::Sha256::first_words, sha2::specs::Sha256::schedule, sha2::specs::Sha256::rounds, sha2::specs::Sha256::compress, sha2::specs::Sha256::hash_after, sha2::specs::Sha256::digest_bytes, sha2::specs::Sha256::sha256))]
+pub fn digests_by_hand()
+    ensures begun { sha256 begun_bytes ≡ begun_digest }
+    ensures watched { sha256 watched_bytes ≡ watched_digest }
+{}
+
+/// The files are read, but not with a byte less or more, nor with another used byte.
+#[tactic(auto, unfolding(sha2::specs::Sha256::first_words, sha2::specs::Sha256::schedule, sha2::specs::Sha256::rounds, sha2::specs::Sha256::compress, sha2::specs::Sha256::hash_after, sha2::specs::Sha256::digest_bytes, sha2::specs::Sha256::sha256))]
+pub fn faults_of_the_digest()
+    ensures whole { read sketch_file (watched_bytes ++ watched_digest) ≡ Ok (numbers watched) }
+    ensures short { read sketch_file (take 151 (watched_bytes ++ watched_digest)) ≡ Err 120 }
+    ensures long { read sketch_file (watched_bytes ++ (watched_digest ++ 0 ∷ [])) ≡ Err 152 }
+    ensures used { read sketch_file (changed (watched_bytes ++ watched_digest) 53 (1 ∷ []))
+        ≡ Err 120 }
+{}
+
+/// Where each field has none of its values, the place is that of the field.
+pub fn faults_of_the_head()
+    ensures short { read sketch_file (take 3 watched_bytes) ≡ Err 3 }
+    ensures version { read sketch_file (changed watched_bytes 4 (2 ∷ [])) ≡ Err 4 }
+    ensures depth { read sketch_file (changed watched_bytes 5 (49 ∷ [])) ≡ Err 5 }
+    ensures first { read sketch_file (changed watched_bytes 10 (0 ∷ 0 ∷ 0 ∷ 2 ∷ [])) ≡ Err 10 }
+    ensures last { read sketch_file (changed watched_bytes 14 (0 ∷ 0 ∷ 0 ∷ 0 ∷ [])) ≡ Err 14 }
+    ensures weight { read sketch_file (changed watched_bytes 22 (0x40 ∷ [])) ≡ Err 18 }
+    ensures records { read sketch_file (changed watched_bytes 41 (10 ∷ [])) ≡ Err 34 }
+    ensures negatives { read sketch_file (changed watched_bytes 42 (2 ∷ [])) ≡ Err 42 }
+    ensures seats { read sketch_file (changed watched_bytes 51 (0 ∷ [])) ≡ Err 51 }
+{}
+
+/// So it is in a seat.
+pub fn faults_of_a_seat()
+    ensures kind { read sketch_file (changed watched_bytes 52 (9 ∷ [])) ≡ Err 52 }
+    ensures used { read sketch_file (changed watched_bytes 53 (2 ∷ [])) ≡ Err 53 }
+    ensures challenge { read sketch_file (changed watched_bytes 54 modulus_bytes) ≡ Err 54 }
+    ensures second { read sketch_file (changed watched_bytes 85 (1 ∷ [])) ≡ Err 78 }
+    ensures short { read sketch_file (take 78 watched_bytes) ≡ Err 78 }
+{}
+
+/// The total of a side of which no delta was below 0 is its weight.
+pub fn faults_of_a_total()
+    ensures other { read sketch_file (heavy_bytes 8) ≡ Err 78 }
+{}
+
+/// Where it is, the digest stands behind it.
+#[tactic(auto, unfolding(sha2::specs::Sha256::first_words, sha2::specs::Sha256::schedule, sha2::specs::Sha256::rounds, sha2::specs::Sha256::compress, sha2::specs::Sha256::hash_after, sha2::specs::Sha256::digest_bytes, sha2::specs::Sha256::sha256))]
+pub fn the_total_is_the_weight()
+    ensures { read sketch_file (heavy_bytes 9) ≡ Err 86 }
+{}

@@ -1,0 +1,51 @@
+//! What a seat of a sketch serves.
+
+ghost use Rattle.std.specs.Prelude.{◌≡◌, ◌≤◌};
+ghost use Rattle.sip_sketch.specs.Sketches.{code_of};
+
+use sip_vector::Side;
+
+/// What a seat serves, and so what is kept for it.
+#[derive(Clone, Copy, Debug, PartialEq, Eq)]
+pub enum SeatKind {
+    /// Entries of side 0, and the next one above or below an item: the root of side 0.
+    Entries,
+    /// Range sums, second moments and higher ones of a side: the extension of the side.
+    Sums(Side),
+    /// The inner product: the extensions of both sides.
+    Products,
+    /// Heavy hitters of a side: the root of its augmented tree.
+    Heavy(Side),
+}
+
+impl SeatKind {
+    /// Its code in a file, from 1 to 6.
+    pub fn code(self) -> u8
+        ensures { result ≡ code_of self }
+    {
+        match self {
+            SeatKind::Entries => 1,
+            SeatKind::Sums(Side::First) => 2,
+            SeatKind::Sums(Side::Second) => 3,
+            SeatKind::Products => 4,
+            SeatKind::Heavy(Side::First) => 5,
+            SeatKind::Heavy(Side::Second) => 6,
+        }
+    }
+
+    /// The kind that has this code.
+    pub(crate) fn of_code(code: u64) -> SeatKind
+        requires least { 1 ≤ code }
+        requires most { code ≤ 6 }
+        ensures { code_of result ≡ code }
+    {
+        match code {
+            1 => SeatKind::Entries,
+            2 => SeatKind::Sums(Side::First),
+            3 => SeatKind::Sums(Side::Second),
+            4 => SeatKind::Products,
+            5 => SeatKind::Heavy(Side::First),
+            _ => SeatKind::Heavy(Side::Second),
+        }
+    }
+}
