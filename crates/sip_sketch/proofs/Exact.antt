@@ -26,7 +26,7 @@ take_nil zero = refl
 take_nil (suc n) = refl
 
 -- the bytes up to a place, and the next ones
-take_on : (n m : ℕ) (bytes : List ℕ) → take (n + m) bytes ≡ take n bytes ++ take m (drop n bytes)
+pub take_on : (n m : ℕ) (bytes : List ℕ) → take (n + m) bytes ≡ take n bytes ++ take m (drop n bytes)
 take_on zero m bytes = ap (λ k. take k bytes) (zero_sum m)
 take_on (suc n) m [] = take_nil (suc n + m) ∙ sym (take_nil m)
 take_on (suc n) m (b ∷ bytes) = ap (λ k. take k (b ∷ bytes)) (suc_sum n m) ∙ ap (λ k. b ∷ k) (take_on n m bytes)

@@ -1,2 +1,7 @@
 pub mod Values
 pub mod Exact
+pub mod Steps
+pub mod HeadFields
+pub mod Closing
+pub mod SeatFields
+pub mod Seats

@@ -2,3 +2,4 @@ pub mod Examples
 pub mod Fields
 pub mod Reading
 pub mod Sketches
+pub mod inside

@@ -141,6 +141,10 @@ bits_of n = from_bool n.first + 2 * from_bool n.second
 abbrev pub tally_numbers : Tally → List ℕ
 tally_numbers t = t.first ∷ t.second ∷ t.count ∷ bits_of t.negatives ∷ t.fingerprint ∷ []
 
+-- the second number of a seat with a code and a use, where this is told of the stream
+abbrev pub second_of : Tally → ℕ → ℕ → Field
+second_of t = second_field t.first t.second (bits_of t.negatives)
+
 abbrev pub numbers : SketchValues → List ℕ
 numbers s = magic ++ (s.depth ∷ (parts_numbers s.parts ++ (tally_numbers s.tally
     ++ (length s.seats ∷ flat_map seat_numbers s.seats))))
@@ -151,5 +155,5 @@ pub record IsSketch (s : SketchValues) : Type 0 where
   pub values : AreValues sketch_file (numbers s)
 
 -- its file
-abbrev pub bytes : SketchValues → List ℕ
-bytes s = spelling sketch_file (numbers s)
+abbrev pub spelled_file : SketchValues → List ℕ
+spelled_file s = spelling sketch_file (numbers s)

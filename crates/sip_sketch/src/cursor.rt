@@ -4,7 +4,6 @@ ghost use Rattle.std.specs.Prelude.{◌≡◌, ◌≤◌, ℕ, [], ◌∷◌, le
 ghost use Rattle.std.specs.Prelude.{if◌then◌else◌};
 ghost use Rattle.std.specs.Int.{byte_len, from_be_bytes};
 ghost use Rattle.sip_sketch.specs.Fields.{Fields, one, width_of};
-ghost use Rattle.sip_sketch.specs.Reading.{Takes};
 ghost use Rattle.sip_sketch.specs.Sketches.{negatives_field, ranged};
 
 use crate::SketchFault;
@@ -59,6 +58,8 @@ pub(crate) struct Cursor<'a> {
 }
 
 impl<'a> Cursor<'a> {
+    ghost use Rattle.sip_sketch.specs.Reading.{Takes};
+
     /// In front of these bytes.
     pub(crate) fn new(bytes: &'a [u8]) -> Cursor<'a>
         ensures bytes { result.bytes.now ≡ bytes.now }
@@ -69,8 +70,7 @@ impl<'a> Cursor<'a> {
 
     /// The next number, from `least` to `most`.
     pub(crate) fn number(&mut self, size: Size, least: u64, most: u64) -> Result<u64, SketchFault>
-        ensures bytes { self.new.bytes.now ≡ self.old.bytes.now }
-        ensures takes { (behind : ℕ → Fields) → Takes self.old.bytes.now self.old.at self.new.at
+        ensures takes { (behind : ℕ → Fields) → Takes self.old self.new
             (one (ranged size least most) behind) (λ x. x ∷ []) behind result }
         ensures least { IfOk result (λ x. least ≤ x) }
         ensures most { IfOk result (λ x. x ≤ most) }
@@ -86,8 +86,7 @@ impl<'a> Cursor<'a> {
 
     /// Which sides of these weights had a delta below 0: 1 for side 0, and 2 for side 1.
     pub(crate) fn negatives(&mut self, first: u64, second: u64) -> Result<u64, SketchFault>
-        ensures bytes { self.new.bytes.now ≡ self.old.bytes.now }
-        ensures takes { (behind : ℕ → Fields) → Takes self.old.bytes.now self.old.at self.new.at
+        ensures takes { (behind : ℕ → Fields) → Takes self.old self.new
             (one (negatives_field first second) behind) (λ x. x ∷ []) behind result }
         ensures most { IfOk result (λ x. x ≤ 3) }
     {

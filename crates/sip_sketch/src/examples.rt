@@ -4,7 +4,7 @@
 ghost use Rattle.std.specs.Prelude.{◌≡◌, ℕ, List, [], ◌∷◌, ◌++◌, take, Ok, Err};
 ghost use Rattle.sha2.specs.Sha256.{sha256};
 ghost use Rattle.sip_sketch.specs.Fields.{read};
-ghost use Rattle.sip_sketch.specs.Sketches.{bytes, numbers, sketch_file};
+ghost use Rattle.sip_sketch.specs.Sketches.{numbers, sketch_file, spelled_file};
 ghost use Rattle.sip_sketch.specs.Examples.{begun, begun_bytes, begun_digest, changed, heavy_bytes};
 ghost use Rattle.sip_sketch.specs.Examples.{modulus_bytes, watched};
 ghost use Rattle.sip_sketch.specs.Examples.{watched_bytes, watched_digest};
@@ -12,8 +12,8 @@ ghost use Rattle.sip_sketch.specs.Examples.{watched_bytes, watched_digest};
 /// The sketches of the empty stream and of three records are spelled by their bytes, with the
 /// digests of these behind them.
 pub fn sketches_by_hand()
-    ensures begun { bytes begun ≡ begun_bytes ++ sha256 begun_bytes }
-    ensures watched { bytes watched ≡ watched_bytes ++ sha256 watched_bytes }
+    ensures begun { spelled_file begun ≡ begun_bytes ++ sha256 begun_bytes }
+    ensures watched { spelled_file watched ≡ watched_bytes ++ sha256 watched_bytes }
 {}
 
 /// The digests.
