@@ -1,10 +1,23 @@
 //! `sip`: checks the answer of a helper that keeps a stream for you.
 #![tactic(auto)]
 
+ghost use Rattle.std.specs.Prelude.{◌≡◌, ◌⊎◌, ◌↔◌, ℕ, IsTrue, IfSome, IsSome, None};
+ghost use Rattle.sip_verifier.specs.declared.status.Status.{Status as AnyStatus};
+ghost use Rattle.sip_cli.specs.declared.command.Command.{Command as AnyCommand};
+ghost use Rattle.sip_cli.specs.declared.sparing.PlanFiles.{PlanFiles as AnyFiles};
+ghost use Rattle.sip_cli.specs.Exit.{code_of};
+ghost use Rattle.sip_cli.specs.Pages.{AsksText};
+ghost use Rattle.sip_cli.specs.Plan.{file_name};
+ghost use Rattle.sip_cli.specs.Sparing.{Spares};
+ghost use Rattle.sip_cli.specs.Statuses.{Ends};
+ghost use Rattle.sip_cli.specs.ToldStream.{stream_form, stream_teller, unread};
+ghost use Rattle.sip_cli.specs.ToldTalk.{IsScript, talk_teller, unsaid};
+ghost use Rattle.sip_cli.specs.Words.{IsSpelled, Spells, IsRefusedAt};
+
 use sip_cli::{
-    FileId, LinkOrder, OPENING_FROM, OPENING_TO, Opening, PlanFiles, PortPlan, ToldLink,
-    ToldSource, Words, finish, page_of, panel_words, play_words, ports, run, status_without_words,
-    write_page,
+    Command, Ending, FileId, LinkOrder, OPENING_FROM, OPENING_TO, Opening, PlanFiles, PortPlan,
+    ToldLink, ToldSource, Usage, Words, finish, obey, page_of, panel, play, ports, read_words,
+    status_without_words, write_page,
 };
 use sip_ports::{
     FileLink, FileSink, FileSource, NullSink, Sink, Source, StderrSink, StdoutSink, write_whole,
@@ -49,7 +62,9 @@ fn regular(rt: &HostRuntime, words: &Words, opening: Opening) -> Option<FileId> 
 }
 
 /// The plan without the outputs that are another file of it: see `PortPlan::sparing`.
-fn sparing(rt: &HostRuntime, words: &Words, plan: &PortPlan) -> PortPlan {
+fn sparing(rt: &HostRuntime, words: &Words, plan: &PortPlan) -> PortPlan
+    ensures { (files : AnyFiles) × Spares files plan.now result }
+{
     plan.sparing(&PlanFiles {
         first: regular(rt, words, plan.first),
         second: regular(rt, words, plan.second),
@@ -59,13 +74,17 @@ fn sparing(rt: &HostRuntime, words: &Words, plan: &PortPlan) -> PortPlan {
     })
 }
 
-/// A file to read.
-fn opened(rt: &HostRuntime, words: &Words, opening: Opening) -> Option<File> {
+/// A file to read. None is opened that the words do not name.
+fn opened(rt: &HostRuntime, words: &Words, opening: Opening) -> Option<File>
+    ensures { file_name opening words.now ≡ None → result ≡ None }
+{
     File::open(rt, opening.name(words)?).ok()
 }
 
-/// A file to write, which is made or emptied.
-fn emptied(rt: &HostRuntime, words: &Words, opening: Opening) -> Option<File> {
+/// A file to write, which is made or emptied. None is that the words do not name.
+fn emptied(rt: &HostRuntime, words: &Words, opening: Opening) -> Option<File>
+    ensures { file_name opening words.now ≡ None → result ≡ None }
+{
     File::create(rt, opening.name(words)?).ok()
 }
 
@@ -73,7 +92,9 @@ fn emptied(rt: &HostRuntime, words: &Words, opening: Opening) -> Option<File> {
 type Lines = StderrSink<Stderr>;
 
 /// Standard error for the lines on the way, if they are to be written.
-fn lines(rt: &HostRuntime, tells: bool) -> Option<Lines> {
+fn lines(rt: &HostRuntime, tells: bool) -> Option<Lines>
+    ensures { IsSome result ↔ IsTrue tells }
+{
     if tells {
         Some(StderrSink::new(rt.stderr()))
     } else {
@@ -96,22 +117,30 @@ fn say(rt: &HostRuntime, opening: Opening, line: &str, tells: bool) {
 fn stream(
     rt: &HostRuntime,
     words: &Words,
+    command: &Command,
     opening: Opening,
     tells: bool,
-) -> Option<Box<ToldSource<FileSource, Lines>>> {
+) -> Option<Box<ToldSource<FileSource, Lines>>>
+    // What it tells it tells of the command's stream.
+    ensures { IfSome result (λ told. IfSome (stream_teller told.value) (λ teller.
+        teller.reading ≡ unread (stream_form command.now))) }
+{
     let file = FileSource::new(opened(rt, words, opening));
-    Box::new(rt.alloc(), ToldSource::new(words, file, lines(rt, tells))).ok()
+    Box::new(rt.alloc(), ToldSource::new(command, file, lines(rt, tells))).ok()
 }
 
 /// A source over a made stream; `None` where memory is refused.
 #[inline(never)]
 fn made(
     rt: &HostRuntime,
-    words: &Words,
+    command: &Command,
     made: MadeSource,
     tells: bool,
-) -> Option<Box<ToldSource<MadeSource, Lines>>> {
-    Box::new(rt.alloc(), ToldSource::new(words, made, lines(rt, tells))).ok()
+) -> Option<Box<ToldSource<MadeSource, Lines>>>
+    ensures { IfSome result (λ told. IfSome (stream_teller told.value) (λ teller.
+        teller.reading ≡ unread (stream_form command.now))) }
+{
+    Box::new(rt.alloc(), ToldSource::new(command, made, lines(rt, tells))).ok()
 }
 
 /// A source over a file to read; `None` where memory is refused.
@@ -130,7 +159,17 @@ type Peer = ToldLink<FileLink, Lines>;
 /// Opens the two ends of the link, in the order of the plan: so two FIFOs can stand between the two
 /// sides. `None` where memory is refused.
 #[inline(never)]
-fn link(rt: &HostRuntime, words: &Words, plan: &PortPlan, tells: bool) -> Option<Box<Peer>> {
+fn link(
+    rt: &HostRuntime,
+    words: &Words,
+    command: &Command,
+    plan: &PortPlan,
+    tells: bool,
+) -> Option<Box<Peer>>
+    // What it tells it tells of what the command asks.
+    ensures { IfSome result (λ peer. IfSome (talk_teller peer.value) (λ teller.
+        IsScript command.now teller.script × (teller.turn ≡ unsaid))) }
+{
     let (from, to) = match plan.link_order() {
         LinkOrder::ToFirst => {
             say(rt, plan.to, OPENING_TO, tells);
@@ -146,7 +185,7 @@ fn link(rt: &HostRuntime, words: &Words, plan: &PortPlan, tells: bool) -> Option
         }
     };
     let link = FileLink::new(from, to);
-    Box::new(rt.alloc(), ToldLink::new(words, link, lines(rt, tells))).ok()
+    Box::new(rt.alloc(), ToldLink::new(command, link, lines(rt, tells))).ok()
 }
 
 /// The file that keeps the transcript, which is made or emptied; `None` where memory is refused.
@@ -163,26 +202,30 @@ struct RunPorts {
     peer: Box<Peer>,
 }
 
-/// Does what the words say over these ports. Words of `play` and `panel` have no use for the link,
-/// and those of `panel` none for what keeps a transcript.
+/// Does a command over these ports. `play` and `panel` have no use for the link, and `panel` none
+/// for what keeps a transcript.
 fn obey_keeping<S: Source, C: Sink>(
     rt: &HostRuntime,
-    words: &Words,
+    command: &Command,
     first: &mut S,
     held: &mut RunPorts,
     keep: &mut C,
-) -> Status {
+) -> Status
+    requires { IsSpelled command.now }
+    // Its status is one of the command's own.
+    ensures { Ends command.now result }
+{
     let mut report = StdoutSink::new(io::writer(rt));
     let second = &mut *held.second;
-    if let Some(status) = play_words(rt.alloc(), words, first, second, &mut report, keep) {
+    if let Some(status) = play(rt.alloc(), command, first, second, &mut report, keep) {
         return status;
     }
-    if let Some(status) = panel_words(rt.alloc(), words, first, second, &mut report) {
+    if let Some(status) = panel(rt.alloc(), command, first, second, &mut report) {
         return status;
     }
-    run(
+    obey(
         rt.alloc(),
-        words,
+        command,
         first,
         second,
         &mut *held.peer,
@@ -191,37 +234,45 @@ fn obey_keeping<S: Source, C: Sink>(
     )
 }
 
-/// Opens the files that the words name, but for the first source, and does what the words say. A
-/// file that does not open is a port whose calls fail. Words of `play` and `panel` name none for a
-/// link, since their helpers are in the program. `None` where memory is refused to a port.
+/// Opens the files that the words name, but for the first source, and does the command that they
+/// spell. A file that does not open is a port whose calls fail. Words of `play` and `panel` name
+/// none for a link, since their helpers are in the program. `None` where memory is refused to a
+/// port.
 #[inline(never)]
 fn obey_over<S: Source>(
     rt: &HostRuntime,
     words: &Words,
+    command: &Command,
     plan: &PortPlan,
     first: &mut S,
     tells: bool,
-) -> Option<Status> {
+) -> Option<Status>
+    requires { Spells words.now command.now }
+    ensures { IfSome result (λ status. Ends command.now status) }
+{
     let second = source(rt, words, plan.second)?;
-    let peer = link(rt, words, plan, tells)?;
+    let peer = link(rt, words, command, plan, tells)?;
     let mut held = RunPorts { second, peer };
     // Where neither TO nor RECORD was there, they may be one file now.
     let keep = sparing(rt, words, plan).keep;
     Some(match keep {
         Opening::Path { .. } | Opening::Spared => {
             let mut keep = record(rt, words, keep)?;
-            obey_keeping(rt, words, first, &mut held, &mut *keep)
+            obey_keeping(rt, command, first, &mut held, &mut *keep)
         }
         Opening::Nothing | Opening::Made { .. } => {
-            obey_keeping(rt, words, first, &mut held, &mut NullSink::new())
+            obey_keeping(rt, command, first, &mut held, &mut NullSink::new())
         }
     })
 }
 
-/// Does what the words say, over the file or the made stream that is the first source. `None` where
-/// memory is refused to a port.
-fn obey(rt: &HostRuntime, words: &Words, tells: bool) -> Option<Status> {
-    let asked = ports(words);
+/// Does the command that the words spell, over the file or the made stream that is the first
+/// source. `None` where memory is refused to a port.
+fn obey_opened(rt: &HostRuntime, words: &Words, command: &Command, tells: bool) -> Option<Status>
+    requires { Spells words.now command.now }
+    ensures { IfSome result (λ status. Ends command.now status) }
+{
+    let asked = ports(words, command);
     let plan = sparing(rt, words, &asked);
     match &asked.first {
         Opening::Made {
@@ -230,30 +281,50 @@ fn obey(rt: &HostRuntime, words: &Words, tells: bool) -> Option<Status> {
             depth,
         } => {
             let source = MadeSource::new(*number, *count, *depth);
-            let mut first = made(rt, words, source, tells)?;
-            obey_over(rt, words, &plan, &mut *first, tells)
+            let mut first = made(rt, command, source, tells)?;
+            obey_over(rt, words, command, &plan, &mut *first, tells)
         }
         Opening::Nothing | Opening::Spared | Opening::Path { .. } => {
-            let mut first = stream(rt, words, asked.first, tells)?;
-            obey_over(rt, words, &plan, &mut *first, tells)
+            let mut first = stream(rt, words, command, asked.first, tells)?;
+            obey_over(rt, words, command, &plan, &mut *first, tells)
         }
+    }
+}
+
+/// The status of words that ask for no text: that of the command that they spell, or a usage fault
+/// where they spell none.
+fn obey_words(rt: &HostRuntime, words: &Words, tells: bool) -> Status
+    ensures spelled { (command : AnyCommand) → Spells words.now command → Ends command result }
+    ensures usage { (word : ℕ) → (result ≡ Status.Usage word) ↔ IsRefusedAt words.now word }
+{
+    match read_words(words) {
+        Ok(command) => obey_opened(rt, words, &command, tells).unwrap_or(Status::OutOfMemory),
+        Err(Usage { word }) => Status::Usage { word },
     }
 }
 
 /// The status of the words: that of the page that they ask for, or of what they say.
-fn done(rt: &HostRuntime, words: &Words, tells: bool) -> Status {
+fn done(rt: &HostRuntime, words: &Words, tells: bool) -> Status
+    ensures spelled { (command : AnyCommand) → Spells words.now command → Ends command result }
+    ensures usage { (word : ℕ) → result ≡ Status.Usage word → IsRefusedAt words.now word }
+    ensures refused { (word : ℕ) → IsRefusedAt words.now word
+        → AsksText words.now ⊎ (result ≡ Status.Usage word) }
+{
     match page_of(words) {
         Some(text) => write_page(text, &mut StdoutSink::new(io::writer(rt))),
-        None => obey(rt, words, tells).unwrap_or(Status::OutOfMemory),
+        None => obey_words(rt, words, tells),
     }
 }
 
-fn main(rt: HostRuntime) -> ExitCode {
-    let _stand_ins = stand_ins(&rt);
-    let ending = match words(&rt) {
+/// Does what the words say, and writes what went wrong and what can be done about it. The code is
+/// that of a status.
+fn ending(rt: &HostRuntime) -> Ending
+    ensures { (status : AnyStatus) × (result.code ≡ code_of status) }
+{
+    match words(rt) {
         Ok(given) => {
             let (words, tells) = given.behind_progress();
-            let status = done(&rt, &words, tells);
+            let status = done(rt, &words, tells);
             let mut errors = StderrSink::new(rt.stderr());
             finish(&status, &mut errors).advise(&words, &status, &mut errors)
         }
@@ -261,6 +332,10 @@ fn main(rt: HostRuntime) -> ExitCode {
             let status = status_without_words(&error);
             finish(&status, &mut StderrSink::new(rt.stderr()))
         }
-    };
-    ExitCode::from(ending.code)
+    }
+}
+
+fn main(rt: HostRuntime) -> ExitCode {
+    let _stand_ins = stand_ins(&rt);
+    ExitCode::from(ending(&rt).code)
 }

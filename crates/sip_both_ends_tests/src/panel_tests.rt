@@ -1,6 +1,6 @@
 // Runs against several helpers in the program.
 
-use sip_cli::panel_words;
+use sip_cli::{panel, read_words};
 use sip_command_tests::case::Case;
 use sip_command_tests::frames::ZERO_SEED;
 use sip_command_tests::play::BOTH_SIDES;
@@ -72,7 +72,7 @@ const RUNS: &[Run<'static>] = &[
         }),
         "",
     ),
-    // Words of other commands, or of none, are left to `run`.
+    // Other commands, and words of none, are left to `run`.
     Run("panel text:s k honest 2 sub:0:4", None, ""),
     Run("play text:s k honest - 2 sub:1:2", None, ""),
     Run("verify text:s k a b - 2 sub:1:2", None, ""),
@@ -83,7 +83,10 @@ fn check_run(rt: &impl Abort, alloc: Global, Run(name, status, lines): Run) -> R
     let mut first = MemorySource::new(BOTH_SIDES.to_vec(alloc)?, 7, Vec::new(alloc));
     let mut second = MemorySource::new(ZERO_SEED.to_vec(alloc)?, 5, Vec::new(alloc));
     let mut report = MemorySink::new(alloc, 10_000, Vec::new(alloc));
-    let ended = panel_words(alloc, &words, &mut first, &mut second, &mut report);
+    let ended = match read_words(&words) {
+        Ok(command) => panel(alloc, &command, &mut first, &mut second, &mut report),
+        Err(_) => None,
+    };
     let case = Case { name, number: 0 };
     case.holds(ended == status).expect(rt, "a case");
     case.writes(report.bytes(), lines.as_bytes())

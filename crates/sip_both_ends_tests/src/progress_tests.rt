@@ -2,7 +2,7 @@
 ghost use Rattle.std.specs.Prelude.{◌≤◌};
 
 use crate::duel::{duel, heard, sent};
-use sip_cli::{ToldLink, ToldSource, exit_code, run};
+use sip_cli::{ToldLink, ToldSource, exit_code, read_words, run};
 use sip_command_tests::case::Case;
 use sip_command_tests::frames::*;
 use sip_command_tests::row::{At, FIRST_GIVEN, Failing, RunInput, Shown, link, source, words_of};
@@ -126,12 +126,12 @@ fn taker(alloc: Global, fails: Vec<u64>) -> Option<MemorySink> {
 
 fn check_moved(rt: &impl Abort, alloc: Global, rows: &[Moved], skips: bool) -> Result<(), Fail> {
     for &(name, byte, mebibytes, want) in rows {
-        let words = words_of(alloc, name)?;
+        let command = read_words(&words_of(alloc, name)?)?;
         let mut buffer = vec![in alloc; byte; MEBIBYTE]?;
         let endless = Endless {
             bytes: buffer.clone()?,
         };
-        let mut told = ToldSource::new(&words, endless, taker(alloc, Vec::new(alloc)));
+        let mut told = ToldSource::new(&command, endless, taker(alloc, Vec::new(alloc)));
         let case = Case {
             name,
             number: mebibytes as u64,
@@ -173,10 +173,11 @@ fn run_told(
     requires { 1 ≤ chunk }
 {
     let words = words_of(alloc, given.words)?;
+    let command = read_words(&words)?;
     let first = source(alloc, given.stream, chunk, failing, At::First)?;
     let peer = link(alloc, given.replies, chunk, failing)?;
-    let mut first = ToldSource::new(&words, first, taker(alloc, fails.to_vec(alloc)?));
-    let mut peer = ToldLink::new(&words, peer, taker(alloc, fails.to_vec(alloc)?));
+    let mut first = ToldSource::new(&command, first, taker(alloc, fails.to_vec(alloc)?));
+    let mut peer = ToldLink::new(&command, peer, taker(alloc, fails.to_vec(alloc)?));
     let mut second = source(alloc, given.seed, chunk, None, At::Second)?;
     let mut report = MemorySink::new(alloc, chunk, Vec::new(alloc));
     let mut keep = MemorySink::new(alloc, chunk, Vec::new(alloc));
@@ -438,7 +439,8 @@ fn lookups_and_moments_are_told_by_their_number(rt: HostRuntime) -> Result<(), F
     for &(name, frames, want) in ASKING {
         let peer = link(alloc, &[&THREE_RECORDS], 10_000, None)?;
         let lines = taker(alloc, Vec::new(alloc));
-        let mut told = ToldLink::new(&words_of(alloc, name)?, peer, lines);
+        let command = read_words(&words_of(alloc, name)?)?;
+        let mut told = ToldLink::new(&command, peer, lines);
         let mut moved = true;
         for frame in frames {
             moved = moved && write_whole(&mut told, frame).is_ok() && told.recv(&mut [0]).is_ok();

@@ -29,7 +29,7 @@ use Rattle.sip_verifier.specs.Promises.{Promises}
 use Rattle.sip_verifier.specs.RunClause.{RunClause}
 use Rattle.sip_verifier.specs.Statuses.{FaultClause}
 use Rattle.sip_verifier.proofs.RunTalks.{tells}
-use Rattle.sip_transcript.specs.Auditing.{AuditClause, Audits, TellsAudit, Audit as Audited}
+use Rattle.sip_transcript.specs.Auditing.{AuditClause}
 use Rattle.sip_transcript.specs.Conversions.{in_version_2}
 use Rattle.sip_transcript.specs.Listings.{listing}
 use Rattle.sip_transcript.specs.Tales.{Tale}
@@ -64,8 +64,7 @@ module _ (before now : Snapshot) (status : Status) where
   abbrev pub Keeps : Command → Type 0
   Keeps (Verify task) = Verified task
   Keeps Help = HelpClause Serves before.talk now.talk status
-  Keeps (Audit form) = (a : Audited) → TellsAudit before now a
-      → Audits form a before.faults now.faults status
+  Keeps (Audit form) = AuditClause form before now status
   Keeps Show = Rendered listing
   Keeps Convert = Rendered in_version_2
   Keeps (Gen depth) = Copied depth (made_form depth) (made_form depth)
@@ -86,7 +85,9 @@ module _ {before now : Snapshot} {status : Status} where
       → (IsTold before → (x : Exchange) × Tells before now x)
       → FaultClause before.faults now.faults status → Ends d status
       → CommandClause (λ is. c ≡ is) before now status
-  obeys d e kept moves fault listed = subst
+  obeys d e kept moves fault listed =
+      let audited : (form : Form) → d ≡ Audit form → AuditClause form before now status
+      = λ form is. subst (Keeps before now status) is kept in subst
       (λ (c : Command). CommandClause (λ is. c ≡ is) before now status) (sym e) (record {
         verify = λ task is. subst (Keeps before now status) is kept;
         play = λ task name is. subst (Keeps before now status) is kept;
@@ -95,7 +96,8 @@ module _ {before now : Snapshot} {status : Status} where
         lines = λ form depth is. subst (Keeps before now status) is kept;
         wide = λ form depth is. subst (Keeps before now status) is kept;
         help = λ is. subst (Keeps before now status) is kept;
-        audit = λ form is. subst (Keeps before now status) is kept;
+        audit = λ form is. (audited form is).audits;
+        audit_moves = λ form is. (audited form is).moves;
         show = λ is. subst (Keeps before now status) is kept;
         convert = λ is. subst (Keeps before now status) is kept;
         look = λ task is. subst (Keeps before now status) is kept;
@@ -125,7 +127,7 @@ module _ {before now : Snapshot} {status : Status} where
       → AuditClause form before now status
       → (IsTold before → (x : Exchange) × Tells before now x)
       → CommandClause (λ is. c ≡ is) before now status
-  audit_keeps form e k moves = obeys (Audit form) e k.audits moves k.fault k.listed
+  audit_keeps form e k moves = obeys (Audit form) e k moves k.fault k.listed
 
   -- the record is not kept
   look_promised : (task : LookTask) → LookClause task (untold before) (untold now) status
@@ -186,6 +188,7 @@ module _ {before now : Snapshot} {status : Status} where
     wide = λ form depth is. k.wide form depth (tells (Widen form depth) is);
     help = λ is. k.help (tells Help is);
     audit = λ form is. k.audit form (tells (Audit form) is);
+    audit_moves = λ form is. k.audit_moves form (tells (Audit form) is);
     show = λ is. k.show (tells Show is);
     convert = λ is. k.convert (tells Convert is);
     look = λ task is. k.look task (tells (Lookup task) is);
@@ -209,6 +212,7 @@ none_keeps {m = m} word none = record {
   wide = λ form depth is. absurd (none (Widen form depth) is);
   help = λ is. absurd (none Help is);
   audit = λ form is. absurd (none (Audit form) is);
+  audit_moves = λ form is. absurd (none (Audit form) is);
   show = λ is. absurd (none Show is);
   convert = λ is. absurd (none Convert is);
   look = λ task is. absurd (none (Lookup task) is);

@@ -12,6 +12,7 @@ pub mod Getting
 pub mod RunLemmas
 pub mod UnkeptRuns
 pub mod CommandKeeps
+pub mod DoneLemmas
 pub mod PlayLemmas
 pub mod PanelLemmas
 pub mod Alone

@@ -88,7 +88,3 @@ opens_counted words c plan opens number count depth is =
     let same : count_of plan.first ≡ count = ap count_of is in
     let few = first_counted words c plan opens in
     omega arith
-
--- nothing is no made stream
-pub made_never : (count : ℕ) {number depth : ℕ} → Nothing ≡ Made number count depth → count ≤ most_made
-made_never count is = let same : 0 ≡ count = ap count_of is in omega arith

@@ -1,9 +1,6 @@
--- Words of `panel` are told from others; and a run that was not begun, since memory was refused to a helper or a link,
--- keeps what a panel promises.
-use Rattle.std.proofs.Common.{◌≡◌, ◌≢◌, ℕ, zero, suc, ◌*◌, ◌<◌, ◌≤◌, List, [], ◌∷◌, length, map, replicate, All, Option, Some, None, refl, sym, subst, append-nil, arith}
-use Rattle.std.specs.Prelude.{MatchOption}
+-- A run that was not begun, since memory was refused to a helper or a link, keeps what a panel promises.
+use Rattle.std.proofs.Common.{◌≡◌, ℕ, zero, suc, ◌*◌, ◌<◌, ◌≤◌, List, [], ◌∷◌, length, map, replicate, All, Option, refl, sym, append-nil, arith}
 use Rattle.std.proofs.lemmas.List.{get_or-replicate, length-replicate}
-use Rattle.arrayvec.specs.ArrayVec.{ArrayVec}
 use Rattle.sip_ports.specs.declared.port.TalkEvent.{TalkEvent}
 use Rattle.sip_ports.proofs.FaultLemmas.{Rose-positive}
 use Rattle.sip_ports.proofs.TalkLemmas.{GoesOn-refl}
@@ -17,12 +14,7 @@ use Rattle.sip_session.specs.PanelClause.{PanelRunClause}
 use Rattle.sip_session.specs.PanelExchanges.{panel_snapshot}
 use Rattle.sip_session.proofs.Begun.{queries_few}
 use Rattle.sip_session.proofs.PanelRuns.{not_begun, panel_tells}
-use Rattle.sip_cli.specs.declared.command.Command.{Command}
-use Rattle.sip_cli.specs.declared.command.Command.TheVariants.{Panel}
-use Rattle.sip_cli.specs.declared.helper_name.HelperName.{HelperName}
 use Rattle.sip_cli.specs.PanelWordsClause.{PanelWordsClause}
-use Rattle.sip_cli.specs.Words.{Spells, IsRefusedAt}
-use Rattle.sip_cli.proofs.Refusals.{command_once, spelled_not_refused}
 
 -- ---- links
 
@@ -63,16 +55,3 @@ module _ (helpers : ℕ) (task : Task) (some : 0 < helpers) (can : CanBeDone tas
     peer = λ e. cc;
     keep = λ e. cc;
   }
-
--- ---- words
-
--- what is read of the command that the words spell is what they say of `panel`
-pub read_of : (words : List (List ℕ)) (c : Command) (r : Option (Task × ArrayVec HelperName)) → Spells words c
-    → MatchOption r ((task : Task) (names : ArrayVec HelperName) → c ≢ Panel task names) (λ x. c ≡ Panel x.0 x.1)
-    → MatchOption r ((task : Task) (names : ArrayVec HelperName) → Spells words (Panel task names) → ⊥) (λ x. Spells words (Panel x.0 x.1))
-read_of words c None spells none = λ task names other. none task names (command_once words c (Panel task names) spells other)
-read_of words c (Some x) spells is = subst (Spells words) is spells
-
--- words that are refused are not those of `panel`
-pub none_of_panel : (words : List (List ℕ)) (n : ℕ) → IsRefusedAt words n → (task : Task) (names : ArrayVec HelperName) → Spells words (Panel task names) → ⊥
-none_of_panel words n refused task names spells = spelled_not_refused words (Panel task names) n spells refused

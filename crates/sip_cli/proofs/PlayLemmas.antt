@@ -1,7 +1,5 @@
--- Words of `play` are told from others; and a run that was not begun, since memory was refused to its helper or its link,
--- keeps what `play` promises.
-use Rattle.std.proofs.Common.{◌≡◌, ◌≢◌, ℕ, ◌≤◌, List, [], Option, Some, None, refl, ap, ◌∙◌, inl, subst, arith}
-use Rattle.std.specs.Prelude.{MatchOption}
+-- A run that was not begun, since memory was refused to its helper or its link, keeps what `play` promises.
+use Rattle.std.proofs.Common.{◌≡◌, ℕ, ◌≤◌, List, [], Some, refl, ap, ◌∙◌, inl, arith}
 use Rattle.sip_ports.specs.declared.port.TalkEvent.{TalkEvent}
 use Rattle.sip_ports.proofs.TalkLemmas.{GoesOn-refl}
 use Rattle.sip_vector.specs.Limits.{most_depth}
@@ -22,11 +20,6 @@ use Rattle.sip_verifier.proofs.RunTalks.{nothing_reported, tells}
 use Rattle.sip_verifier.proofs.GatheredRuns.{after_gather}
 use Rattle.sip_verifier.specs.Questions.{asking}
 use Rattle.sip_duel.specs.Story.{IsHonestTalk}
-use Rattle.sip_cli.specs.declared.command.Command.{Command}
-use Rattle.sip_cli.specs.declared.command.Command.TheVariants.{Play}
-use Rattle.sip_cli.specs.declared.helper_name.HelperName.{HelperName}
-use Rattle.sip_cli.specs.Words.{Spells, IsRefusedAt}
-use Rattle.sip_cli.proofs.Refusals.{command_once, spelled_not_refused}
 
 -- nothing that happened is honest
 pub nothing_is_honest : IsHonestTalk []
@@ -58,17 +51,6 @@ module _ (task : Task) (can : CanBeDone task) (some : 1 ≤ task.depth) (most : 
     fault = tt;
     listed = refl;
   }
-
--- what is read of the command that the words spell is what they say of `play`
-pub read_of : (words : List (List ℕ)) (c : Command) (r : Option (Task × HelperName)) → Spells words c
-    → MatchOption r ((task : Task) (name : HelperName) → c ≢ Play task name) (λ x. c ≡ Play x.0 x.1)
-    → MatchOption r ((task : Task) (name : HelperName) → Spells words (Play task name) → ⊥) (λ x. Spells words (Play x.0 x.1))
-read_of words c None spells none = λ task name other. none task name (command_once words c (Play task name) spells other)
-read_of words c (Some x) spells is = subst (Spells words) is spells
-
--- words that are refused are not those of `play`
-pub none_of_play : (words : List (List ℕ)) (n : ℕ) → IsRefusedAt words n → (task : Task) (name : HelperName) → Spells words (Play task name) → ⊥
-none_of_play words n refused task name spells = spelled_not_refused words (Play task name) n spells refused
 
 -- a link on which nothing has happened tells no event
 pub tells_on : {items : List TalkEvent} → items ≡ [] → {first second : PortState ℕ} {report keep : PortState TalkEvent} {now : Snapshot} {x : Exchange}

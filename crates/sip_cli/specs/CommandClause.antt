@@ -1,6 +1,6 @@
 -- All that a command keeps, from the moment before it to the moment after, with the status that it
 -- answers.
-use Rattle.std.specs.Prelude.{◌≡◌, ℕ, List, Some, None}
+use Rattle.std.specs.Prelude.{◌≡◌, ℕ, List, Some, None, IsSome}
 use Rattle.arrayvec.specs.ArrayVec.{ArrayVec}
 use Rattle.sip_cli.specs.CopyClause.{CopyClause}
 use Rattle.sip_cli.specs.declared.command.Command.{Command}
@@ -74,6 +74,9 @@ pub record CommandClause (Is : Command → Type 0) (before now : Snapshot) (stat
   -- `audit`: a stored run is judged again, by what the ports tell
   pub audit : (form : Form) → Is (Audit form) → (a : Audited) → TellsAudit before now a
       → Audits form a before.faults now.faults status
+  -- where the three ports that it calls tell, they go on telling, so there is what it moved
+  pub audit_moves : (form : Form) → Is (Audit form) → IsSome before.first → IsSome before.second
+      → IsSome before.report → (a : Audited) × TellsAudit before now a
   -- `show`: the transcript is listed
   pub show : Is Show → (bytes : List ℕ) → before.second ≡ Some bytes
       → Writes listing bytes now.second before.report now.report status

@@ -17,5 +17,6 @@ pub mod PlayClause
 pub mod PanelWordsClause
 pub mod Statuses
 pub mod CommandClause
+pub mod DoneClause
 pub mod Stored
 pub mod inside

@@ -96,6 +96,10 @@ Spells words (command.Panel task names) =
     IsCommandOf verb.Panel words × SaysTask verb.Panel words task
     × AreHelpers names.items (word words 3)
 
+-- some words spell the command
+abbrev pub IsSpelled : Command → Type 0
+IsSpelled command = (words : List (List ℕ)) × Spells words command
+
 -- some command begins with these words
 abbrev pub BeginCommand : List (List ℕ) → Type 0
 BeginCommand words = (verb : Verb) × (rest : List (List ℕ)) × IsCommandOf verb (words ++ rest)

@@ -65,44 +65,6 @@ pub enum Command {
     Panel(Task, ArrayVec<HelperName, MOST_QUERIES>),
 }
 
-impl Command {
-    /// The task and the helper of `play`.
-    pub(crate) fn into_play(self) -> Option<(Task, HelperName)>
-        ensures { MatchOption result
-            ((task : AnyTask) (name : AnyName) → self ≢ Command.Play task name)
-            (λ x. self ≡ Command.Play x.0 x.1) }
-    {
-        match self {
-            Command::Play(task, name) => Some((task, name)),
-            Command::Verify(_)
-            | Command::Help
-            | Command::Audit { .. }
-            | Command::Show
-            | Command::Convert
-            | Command::Gen { .. }
-            | Command::Lines { .. }
-            | Command::Widen { .. }
-            | Command::Lookup(_)
-            | Command::HelpLook
-            | Command::Moments(_)
-            | Command::HelpMoments
-            | Command::Panel(..) => None,
-        }
-    }
-
-    /// The task and the helpers of `panel`.
-    pub(crate) fn into_panel(self) -> Option<(Task, ArrayVec<HelperName, MOST_QUERIES>)>
-        ensures { MatchOption result
-            ((task : AnyTask) (names : AnyNames AnyName) → self ≢ Command.Panel task names)
-            (λ x. self ≡ Command.Panel x.0 x.1) }
-    {
-        match self {
-            Command::Panel(task, names) => Some((task, names)),
-            _ => None,
-        }
-    }
-}
-
 /// The number of the depth of `verify`.
 const VERIFY_DEPTH: usize = 6;
 

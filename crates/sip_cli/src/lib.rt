@@ -40,13 +40,13 @@ pub use page_text::{
     AUDIT_PART, GEN_PART, HELP, HELP_PART, HELPLOOK_PART, HELPMOM_PART, LINES_PART, LOOKUP_PART,
     MOMENTS_PART, PANEL_PART, PLAY_PART, VERIFY_PART, VERSION, WIDEN_PART,
 };
-pub use panelling::panel_words;
+pub use panelling::panel;
 pub use plan::{LinkOrder, Opening, PortPlan, ports};
-pub use playing::play_words;
+pub use playing::play;
 pub use progress::{OPENING_FROM, OPENING_TO};
 pub use sparing::{FileId, PlanFiles};
 pub use status_text::status_line;
 pub use told_link::ToldLink;
 pub use told_source::ToldSource;
-pub use top::run;
+pub use top::{obey, run};
 pub use words::{Usage, Words};

@@ -1,6 +1,7 @@
 //! The command whose helpers are several, all in the program.
 
-ghost use Rattle.std.specs.Prelude.{◌≡◌, ◌*◌, ◌<◌, ◌≤◌, None, IfOk, OnErr, MatchOption, length};
+ghost use Rattle.std.specs.Prelude.{◌≡◌, ◌≢◌, ◌*◌, ◌<◌, ◌≤◌, None, IfOk, OnErr, MatchOption};
+ghost use Rattle.std.specs.Prelude.{length};
 ghost use Rattle.arrayvec.specs.ArrayVec.{ArrayVec as AnyNames};
 ghost use Rattle.sip_ports.specs.Ports.{Lasts};
 ghost use Rattle.sip_session.specs.PanelExchanges.{panel_snapshot};
@@ -8,20 +9,16 @@ ghost use Rattle.sip_verifier.specs.declared.task.Task.{Task as AnyTask};
 ghost use Rattle.sip_verifier.specs.Exchanges.{TakesAtMost};
 ghost use Rattle.sip_verifier.specs.Tasks.{CanBeDone};
 ghost use Rattle.sip_wire.specs.Table.{most_queries};
-ghost use Rattle.sip_cli.specs.declared.command.Command.{Command as AnyCommand};
 ghost use Rattle.sip_cli.specs.declared.helper_name.HelperName.{HelperName as AnyName};
 ghost use Rattle.sip_cli.specs.PanelWordsClause.{PanelWordsClause};
-ghost use Rattle.sip_cli.specs.Words.{Spells};
+ghost use Rattle.sip_cli.specs.Words.{IsSpelled};
 
 use crate::playing::{honest, skewed};
-use crate::{Command, HelperName, Words, read_words};
-use arrayvec::ArrayVec;
+use crate::{Command, HelperName};
 use sip_duel::{Helper, HelperLink, Mute};
 use sip_field::OutOfMemory;
 use sip_ports::{Sink, Source};
-use sip_session::panel;
 use sip_verifier::{Status, Task};
-use sip_wire::MOST_QUERIES;
 use std::alloc::Global;
 
 // Does a task over links to the helpers of these names. Where memory is refused to one nothing is
@@ -58,23 +55,10 @@ fn panel_named<A: Source, B: Source, K: Sink>(
         };
         links.push(HelperLink::new(alloc, helper)?)?;
     }
-    Ok(panel(alloc, task, first, second, &mut links, report))
+    Ok(sip_session::panel(alloc, task, first, second, &mut links, report))
 }
 
-// The task and the helpers of words of `panel`.
-fn task_to_seat(words: &Words) -> Option<(Task, ArrayVec<HelperName, MOST_QUERIES>)>
-    ensures { MatchOption result
-        ((task : AnyTask) (names : AnyNames AnyName)
-        → Spells words.now (Command.Panel task names) → ⊥)
-        (λ x. Spells words.now (Command.Panel x.0 x.1)) }
-{
-    match read_words(words) {
-        Ok(command) => command.into_panel(),
-        Err(_) => None,
-    }
-}
-
-/// Does what words of `panel` say; other words give `None`, and then no port is called.
+/// Does a command `panel`; another one gives `None`, and then no port is called.
 ///
 /// `panel STREAM SEED HELPERS DEPTH QUERY..` sends the stream to the helpers of these names, which
 /// are made here. Each query is asked of one after another, until the replies of one are accepted,
@@ -83,19 +67,19 @@ fn task_to_seat(words: &Words) -> Option<(Task, ArrayVec<HelperName, MOST_QUERIE
 /// helper keeps, and with the talks, which the links keep. Where memory is refused to a helper or a
 /// link, the run ends at once for want of it.
 #[inline(never)]
-pub fn panel_words<A: Source, B: Source, K: Sink>(
+pub fn panel<A: Source, B: Source, K: Sink>(
     alloc: Global,
-    words: &Words,
+    command: &Command,
     first: &mut A,
     second: &mut B,
     report: &mut K,
 ) -> Option<Status>
+    requires { IsSpelled command.now }
     // All that a panel keeps, over as many links as there are names.
     ensures seated { MatchOption result
-        ((task : AnyTask) (names : AnyNames AnyName)
-        → Spells words.now (Command.Panel task names) → ⊥)
+        ((task : AnyTask) (names : AnyNames AnyName) → command.now ≢ Command.Panel task names)
         (λ status. (task : AnyTask) × (names : AnyNames AnyName)
-        × Spells words.now (Command.Panel task names)
+        × (command.now ≡ Command.Panel task names)
         × PanelWordsClause task (length names.items)
         (λ talks. panel_snapshot (A.left first.old) (A.faults first.old) (B.left second.old)
         (B.faults second.old) talks (K.talk report.old) (K.faults report.old))
@@ -111,8 +95,10 @@ pub fn panel_words<A: Source, B: Source, K: Sink>(
     ensures second { Lasts B.faults B.wants B.is_sure second.old second.new }
     ensures report { Lasts K.faults K.wants K.is_sure report.old report.new }
 {
-    let (task, names) = task_to_seat(words)?;
-    match panel_named(alloc, &task, &names, first, second, report) {
+    let Command::Panel(task, names) = command else {
+        return None;
+    };
+    match panel_named(alloc, task, names, first, second, report) {
         Ok(status) => Some(status),
         Err(_) => Some(Status::OutOfMemory),
     }

@@ -6,18 +6,17 @@ ghost use Rattle.std.specs.Option.{option_copied};
 ghost use Rattle.sip_verifier.specs.declared.task.Task.{Task as AnyTask};
 ghost use Rattle.sip_lookup.specs.declared.task.LookTask.{LookTask as AnyLookTask};
 ghost use Rattle.sip_moments.specs.declared.task.MomentTask.{MomentTask as AnyMomentTask};
-ghost use Rattle.sip_cli.specs.declared.command.Command.{Command as AnyCommand};
 ghost use Rattle.sip_cli.specs.declared.stream.Stream.{Stream as AnyStream};
 ghost use Rattle.sip_stream.specs.Made.{most_made};
 ghost use Rattle.sip_cli.specs.Plan.{HasName, HaveNames, IsMarked, IsRecord, Opens, audit_ports};
-ghost use Rattle.sip_cli.specs.Plan.{file_name, help_ports, no_ports, opening_of, play_ports};
+ghost use Rattle.sip_cli.specs.Plan.{file_name, help_ports, opening_of, play_ports};
 ghost use Rattle.sip_cli.specs.Plan.{source_ports, stored_opening, transcript_ports, verify_ports};
 ghost use Rattle.sip_cli.specs.Shapes.{IsStreamWord};
-ghost use Rattle.sip_cli.specs.Words.{Spells, IsRefusedAt, word, word as word_at};
+ghost use Rattle.sip_cli.specs.Words.{Spells, word, word as word_at};
 
 use crate::decimal::read_decimal;
 use crate::stream::{Stream, stream_of};
-use crate::{Command, Words, read_words};
+use crate::{Command, Words};
 use sip_lookup::LookTask;
 use sip_moments::MomentTask;
 use sip_stream::Form;
@@ -315,22 +314,18 @@ impl PortPlan {
     }
 }
 
-/// The files and made streams that a command opens: for `verify` its stream, its seed, the two ends
-/// of its link and the file of its transcript, if it is to keep one, for `lookup` and `moments` the
-/// same without a transcript, for `play` without a link, for `panel` without either, for `help`,
-/// `helplook` and `helpmom` the two ends of their link, for `audit` its stream and the transcript,
-/// for `show` and `convert` the transcript, for `gen`, `lines` and `widen` their stream. Words that
-/// are no command open nothing.
-pub fn ports(words: &Words) -> PortPlan
-    ensures spelled { (command : AnyCommand) → Spells words.now command
-        → Opens words.now command result }
-    ensures refused { (n : ℕ) → IsRefusedAt words.now n → result ≡ no_ports }
+/// The files and made streams that a command opens, whose words these are: for `verify` its stream,
+/// its seed, the two ends of its link and the file of its transcript, if it is to keep one, for
+/// `lookup` and `moments` the same without a transcript, for `play` without a link, for `panel`
+/// without either, for `help`, `helplook` and `helpmom` the two ends of their link, for `audit` its
+/// stream and the transcript, for `show` and `convert` the transcript, for `gen`, `lines` and
+/// `widen` their stream.
+pub fn ports(words: &Words, command: &Command) -> PortPlan
+    requires { Spells words.now command.now }
+    ensures opens { Opens words.now command.now result }
     ensures counted { (number count depth : ℕ) → result.first ≡ Opening.Made number count depth
         → count ≤ most_made }
     ensures named { HaveNames words.now result }
 {
-    match read_words(words) {
-        Ok(command) => PortPlan::of(words, &command),
-        Err(_) => PortPlan::source(Opening::Nothing),
-    }
+    PortPlan::of(words, command)
 }

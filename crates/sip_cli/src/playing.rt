@@ -1,20 +1,21 @@
 //! The command whose helper is in the program.
 
-ghost use Rattle.std.specs.Prelude.{◌≡◌, [], Some, None, IfOk, OnErr, MatchOption};
+ghost use Rattle.std.specs.Prelude.{◌≡◌, ◌≢◌, [], Some, None, IfOk, OnErr, MatchOption};
 ghost use Rattle.sip_ports.specs.Ports.{Lasts};
+ghost use Rattle.std.specs.Option.{option_and_then};
+ghost use Rattle.sip_duel.specs.Story.{Keeps};
 ghost use Rattle.sip_duel.specs.Told.{told_state};
 ghost use Rattle.sip_helper.specs.Turns.{fresh};
 ghost use Rattle.sip_verifier.specs.declared.task.Task.{Task as AnyTask};
 ghost use Rattle.sip_verifier.specs.Exchanges.{TakesAtMost};
 ghost use Rattle.sip_verifier.specs.Snapshots.{port, snapshot, telling};
 ghost use Rattle.sip_verifier.specs.Tasks.{CanBeDone};
-ghost use Rattle.sip_cli.specs.declared.command.Command.{Command as AnyCommand};
 ghost use Rattle.sip_cli.specs.declared.helper_name.HelperName.{HelperName as AnyName};
 ghost use Rattle.sip_cli.specs.PlayClause.{PlayClause};
-ghost use Rattle.sip_cli.specs.Words.{Spells};
+ghost use Rattle.sip_cli.specs.Words.{IsSpelled};
 
-use crate::{Command, HelperName, Words, read_words};
-use sip_duel::{Helper, HelperLink, Honest, Mute, Skewed, play};
+use crate::{Command, HelperName};
+use sip_duel::{Helper, HelperLink, Honest, Mute, Skewed};
 use sip_field::OutOfMemory;
 use sip_ports::{Sink, Source};
 use sip_verifier::{Status, Task};
@@ -35,40 +36,19 @@ pub(crate) fn skewed(alloc: Global) -> Result<Box<Skewed>, OutOfMemory> {
     Ok(Box::new(alloc, Skewed::new(alloc))?)
 }
 
-// Does a task over a link to a boxed helper, which is the one of this name: so much is asked of the
-// name, and what the box is shows nowhere else. Where memory is refused to the link nothing is
-// done.
-#[inline(never)]
-fn play_boxed<A: Source, B: Source, K: Sink, C: Sink>(
+// A link to a boxed helper, which is the one of this name: so much is asked of the name, and what the
+// box shows nowhere else.
+fn link_to(
     alloc: Global,
-    task: &Task,
     name: HelperName,
     helper: Box<dyn Helper>,
-    first: &mut A,
-    second: &mut B,
-    report: &mut K,
-    keep: &mut C,
-) -> Result<Status, OutOfMemory>
-    requires done { CanBeDone task.now }
-    requires named { name ≡ HelperName.Honest → honest_state helper ≡ Some fresh }
-    ensures played { IfOk result (PlayClause task.now (name ≡ HelperName.Honest)
-        (snapshot (port A.left A.faults first.old) (port B.left B.faults second.old)
-        (telling []) (port K.talk K.faults report.old)
-        (port C.talk C.faults keep.old))
-        (λ talk. snapshot (port A.left A.faults first.new)
-        (port B.left B.faults second.new)
-        (telling talk) (port K.talk K.faults report.new)
-        (port C.talk C.faults keep.new))) }
-    ensures unbegun { OnErr result ((first.new ≡ first.old) × (second.new ≡ second.old)
-        × (report.new ≡ report.old) × (keep.new ≡ keep.old)) }
-    ensures first { Lasts A.faults A.wants A.is_sure first.old first.new }
-    ensures seed { TakesAtMost 32 (B.left second.old) (B.left second.new) }
-    ensures second { Lasts B.faults B.wants B.is_sure second.old second.new }
-    ensures report { Lasts K.faults K.wants K.is_sure report.old report.new }
-    ensures keep { Lasts C.faults C.wants C.is_sure keep.old keep.new }
+) -> Result<HelperLink, OutOfMemory>
+    requires { name ≡ HelperName.Honest → honest_state helper ≡ Some fresh }
+    ensures talk { IfOk result (λ link. link.kept.talk.items ≡ []) }
+    ensures promise { name ≡ HelperName.Honest
+        → IfOk result (λ link. Keeps (option_and_then honest_state link.helper) link.kept) }
 {
-    let mut link = HelperLink::new(alloc, helper)?;
-    Ok(play(alloc, task, first, second, &mut link, report, keep))
+    HelperLink::new(alloc, helper)
 }
 
 // Does a task over a link to the helper of this name. Where memory is refused to either nothing is
@@ -99,72 +79,37 @@ fn play_named<A: Source, B: Source, K: Sink, C: Sink>(
     ensures report { Lasts K.faults K.wants K.is_sure report.old report.new }
     ensures keep { Lasts C.faults C.wants C.is_sure keep.old keep.new }
 {
-    match name {
-        HelperName::Honest => {
-            play_boxed(
-                alloc,
-                task,
-                name,
-                honest(alloc)?,
-                first,
-                second,
-                report,
-                keep,
-            )
-        }
-        HelperName::Skewed => {
-            play_boxed(
-                alloc,
-                task,
-                name,
-                skewed(alloc)?,
-                first,
-                second,
-                report,
-                keep,
-            )
-        }
-        HelperName::Mute => {
-            let helper = Box::new(alloc, Mute::new())?;
-            play_boxed(alloc, task, name, helper, first, second, report, keep)
-        }
-    }
+    let mut link = match name {
+        HelperName::Honest => link_to(alloc, name, honest(alloc)?)?,
+        HelperName::Skewed => link_to(alloc, name, skewed(alloc)?)?,
+        HelperName::Mute => link_to(alloc, name, Box::new(alloc, Mute::new())?)?,
+    };
+    Ok(sip_duel::play(alloc, task, first, second, &mut link, report, keep))
 }
 
-// The task and the helper of words of `play`.
-fn task_to_play(words: &Words) -> Option<(Task, HelperName)>
-    ensures { MatchOption result
-        ((task : AnyTask) (name : AnyName) → Spells words.now (Command.Play task name) → ⊥)
-        (λ x. Spells words.now (Command.Play x.0 x.1)) }
-{
-    match read_words(words) {
-        Ok(command) => command.into_play(),
-        Err(_) => None,
-    }
-}
-
-/// Does what words of `play` say; other words give `None`, and then no port is called.
+/// Does a command `play`; another one gives `None`, and then no port is called.
 ///
-/// `play STREAM SEED HELPER RECORD DEPTH QUERY..` is [`run`](crate::run) over a link to the helper
+/// `play STREAM SEED HELPER RECORD DEPTH QUERY..` is [`obey`](crate::obey) over a link to the helper
 /// of that name, which is made here, and is closed and dropped at the end. `keep` gets the
 /// transcript of the run. Memory grows with the entries that are not 0, which the helper keeps, and
 /// with the talk, which the link keeps. Where memory is refused to the helper or the link, the run
 /// ends at once for want of it.
 #[inline(never)]
-pub fn play_words<A: Source, B: Source, K: Sink, C: Sink>(
+pub fn play<A: Source, B: Source, K: Sink, C: Sink>(
     alloc: Global,
-    words: &Words,
+    command: &Command,
     first: &mut A,
     second: &mut B,
     report: &mut K,
     keep: &mut C,
 ) -> Option<Status>
+    requires { IsSpelled command.now }
     // The seven promises, over the talk of a link that counts no fault. So the run never ends by a
     // fault of the peer, and with the helper `honest` a good run is accepted.
     ensures played { MatchOption result
-        ((task : AnyTask) (name : AnyName) → Spells words.now (Command.Play task name) → ⊥)
+        ((task : AnyTask) (name : AnyName) → command.now ≢ Command.Play task name)
         (λ status. (task : AnyTask) × (name : AnyName)
-        × Spells words.now (Command.Play task name)
+        × (command.now ≡ Command.Play task name)
         × PlayClause task (name ≡ HelperName.Honest)
         (snapshot (port A.left A.faults first.old) (port B.left B.faults second.old)
         (telling []) (port K.talk K.faults report.old)
@@ -184,8 +129,10 @@ pub fn play_words<A: Source, B: Source, K: Sink, C: Sink>(
     ensures report { Lasts K.faults K.wants K.is_sure report.old report.new }
     ensures keep { Lasts C.faults C.wants C.is_sure keep.old keep.new }
 {
-    let (task, name) = task_to_play(words)?;
-    match play_named(alloc, &task, name, first, second, report, keep) {
+    let Command::Play(task, name) = command else {
+        return None;
+    };
+    match play_named(alloc, task, *name, first, second, report, keep) {
         Ok(status) => Some(status),
         Err(_) => Some(Status::OutOfMemory),
     }

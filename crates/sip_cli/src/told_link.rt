@@ -1,22 +1,20 @@
 //! A link that says on the way which reply it waits for.
 
-ghost use Rattle.std.specs.Prelude.{◌≡◌, ◌⊎◌, ℕ, ◌≤◌, ◌<◌, IfOk, IfSome, Some, None, OnOk};
+ghost use Rattle.std.specs.Prelude.{◌≡◌, ℕ, ◌≤◌, ◌<◌, IfOk, Some, None, OnOk};
 ghost use Rattle.std.specs.Prelude.{MatchOption, length};
 ghost use Rattle.std.specs.Io.{ReadsAtMost, WritesAtMost};
 ghost use Rattle.std.specs.Option.{option_copied, option_map};
 ghost use Rattle.sip_ports.specs.Ports.{HasCause, Hears, Sends, StandsStill};
 ghost use Rattle.sip_vector.specs.declared.query.Query.{Query as AnyQuery};
 ghost use Rattle.sip_wire.specs.Table.{most_queries};
-ghost use Rattle.sip_cli.specs.declared.command.Command.{Command as AnyCommand};
 ghost use Rattle.sip_cli.specs.Telling.{IfTold, Says};
 ghost use Rattle.sip_cli.specs.ToldTalk.{BeginsFrame, IsAsk, IsFrameOf, IsNumber, IsScript};
 ghost use Rattle.sip_cli.specs.ToldTalk.{SendsOn, TellsReceive, TellsWrite, awaits, heard_more};
 ghost use Rattle.sip_cli.specs.ToldTalk.{hears_on, line_before, line_said, talk_teller, told_link};
 ghost use Rattle.sip_cli.specs.ToldTalk.{unsaid};
-ghost use Rattle.sip_cli.specs.Words.{Spells, IsRefusedAt};
 
+use crate::Command;
 use crate::progress::{STEP, from_line, reply_line, say};
-use crate::{Command, Words, read_words};
 use arrayvec::ArrayVec;
 use sip_ports::{Link, PortStop, Sink};
 use sip_vector::Query;
@@ -69,6 +67,16 @@ fn number_among(queries: &[Query], before: u8, query: &Query) -> Option<u8>
     None
 }
 
+// The same queries.
+fn copied(queries: &[Query]) -> ArrayVec<Query, MOST_QUERIES>
+    requires { length queries.now ≤ most_queries }
+    ensures { result.items ≡ queries.now }
+{
+    let mut copy = ArrayVec::new();
+    let _fits = copy.try_extend_from_slice(queries);
+    copy
+}
+
 /// What is asked over a link, in a version of its frames.
 #[derive(Drop)]
 struct Script {
@@ -77,15 +85,14 @@ struct Script {
 }
 
 impl Script {
-    // What words of a command ask over a link.
-    fn of(words: &Words) -> Script
-        ensures { ((command : AnyCommand) × Spells words.now command × IsScript command result)
-            ⊎ ((word : ℕ) × IsRefusedAt words.now word) }
+    // What a command asks over a link.
+    fn of(command: &Command) -> Script
+        ensures { IsScript command.now result }
     {
-        match read_words(words) {
-            Ok(Command::Verify(task)) => Script {
+        match command {
+            Command::Verify(task) => Script {
                 version: task.version(),
-                queries: task.queries,
+                queries: copied(&task.queries),
             },
             _ => Script {
                 version: Version::One,
@@ -231,19 +238,17 @@ pub struct ToldLink<L: Link + Drop, W: Sink + Drop> {
 }
 
 impl<L: Link + Drop, W: Sink + Drop> ToldLink<L, W> {
-    /// A link over the one of the command of the words, and what takes the lines.
-    pub fn new(words: &Words, link: L, lines: Option<W>) -> Self
+    /// A link over the one of the command, and what takes the lines.
+    pub fn new(command: &Command, link: L, lines: Option<W>) -> Self
         ensures link { told_link result ≡ link }
         ensures teller { MatchOption (talk_teller result) (lines ≡ None)
-            (λ teller. (lines ≡ Some teller.lines) × (teller.turn ≡ unsaid)) }
-        ensures script { IfSome (talk_teller result) (λ teller.
-            ((command : AnyCommand) × Spells words.now command × IsScript command teller.script)
-            ⊎ ((word : ℕ) × IsRefusedAt words.now word)) }
+            (λ teller. (lines ≡ Some teller.lines) × IsScript command.now teller.script
+            × (teller.turn ≡ unsaid)) }
     {
         let teller = match lines {
             Some(lines) => Some(TalkTeller {
                 lines,
-                script: Script::of(words),
+                script: Script::of(command),
                 turn: Turn::unsaid(),
             }),
             None => None,

@@ -1,20 +1,18 @@
 //! A source that says on the way how much of the stream was read.
 
-ghost use Rattle.std.specs.Prelude.{◌≡◌, ◌⊎◌, ℕ, ◌≤◌, nat_le, IfSome, MatchOption, Some, None};
+ghost use Rattle.std.specs.Prelude.{◌≡◌, ℕ, ◌≤◌, nat_le, IfSome, MatchOption, Some, None};
 ghost use Rattle.std.specs.Prelude.{OnOk, OnErr, length, take};
 ghost use Rattle.std.specs.Io.{ReadsAtMost, StartsWith};
 ghost use Rattle.std.specs.Option.{option_copied, option_map};
 ghost use Rattle.std.specs.Io.KnownBytes.{Consumes, ReadConsumes};
 ghost use Rattle.sip_ports.specs.Ports.{HasCause, StandsStill};
-ghost use Rattle.sip_cli.specs.declared.command.Command.{Command as AnyCommand};
 ghost use Rattle.sip_cli.specs.Telling.{IfTold, Says};
 ghost use Rattle.sip_cli.specs.ToldStream.{TellsRead, TellsSkip, feeds_in, line_before, line_said};
 ghost use Rattle.sip_cli.specs.ToldStream.{read_more, records_in, stream_form, stream_teller};
 ghost use Rattle.sip_cli.specs.ToldStream.{told_source, unread};
-ghost use Rattle.sip_cli.specs.Words.{Spells, IsRefusedAt};
 
+use crate::Command;
 use crate::progress::{STEP, say, stream_line};
-use crate::{Command, Words, read_words};
 use sip_ports::{PortStop, Sink, Source};
 use sip_stream::Form;
 
@@ -34,17 +32,6 @@ fn form_of(command: &Command) -> Form
         | Command::HelpMoments
         | Command::Show
         | Command::Convert => Form::Binary,
-    }
-}
-
-// The form of the stream that words of a command name.
-fn form_in(words: &Words) -> Form
-    ensures { ((command : AnyCommand) × Spells words.now command × (result ≡ stream_form command))
-        ⊎ ((word : ℕ) × IsRefusedAt words.now word) }
-{
-    match read_words(words) {
-        Ok(command) => form_of(&command),
-        Err(_) => Form::Binary,
     }
 }
 
@@ -140,22 +127,18 @@ pub struct ToldSource<S: Source + Drop, W: Sink + Drop> {
 }
 
 impl<S: Source + Drop, W: Sink + Drop> ToldSource<S, W> {
-    /// A source over the one that brings the stream of the words, and what takes the lines.
-    pub fn new(words: &Words, source: S, lines: Option<W>) -> Self
+    /// A source over the one that brings the stream of the command, and what takes the lines.
+    pub fn new(command: &Command, source: S, lines: Option<W>) -> Self
         ensures source { told_source result ≡ source }
         ensures teller { MatchOption (stream_teller result) (lines ≡ None)
             (λ teller. (lines ≡ Some teller.lines)
-            × (teller.reading ≡ unread teller.reading.form)) }
-        ensures form { IfSome (stream_teller result) (λ teller.
-            ((command : AnyCommand) × Spells words.now command
-            × (teller.reading.form ≡ stream_form command))
-            ⊎ ((word : ℕ) × IsRefusedAt words.now word)) }
+            × (teller.reading ≡ unread (stream_form command.now))) }
     {
         let teller = match lines {
             Some(lines) => Some(StreamTeller {
                 lines,
                 reading: Reading {
-                    form: form_in(words),
+                    form: form_of(command),
                     bytes: 0,
                     feeds: 0,
                     next: 0,

@@ -5,7 +5,7 @@ use crate::case::Case;
 use crate::copy_tests::copy;
 use crate::cut::{Calls, Cut};
 use crate::row::{At, words_of};
-use sip_cli::{Opening, ports, run};
+use sip_cli::{Opening, ports, read_words, run};
 use sip_ports::{MemoryLink, MemorySink, MemorySource, NullSink};
 use sip_stream::MadeSource;
 use sip_verifier::Status;
@@ -19,7 +19,10 @@ fn run_made(alloc: Global, text: &str, chunk: usize) -> Result<(Status, MemorySi
 {
     let words = words_of(alloc, text)?;
     let mut report = MemorySink::new(alloc, chunk, Vec::new(alloc));
-    let plan = ports(&words);
+    let Ok(command) = read_words(&words) else {
+        return Ok((Status::Usage { word: 0 }, report));
+    };
+    let plan = ports(&words, &command);
     let Opening::Made {
         number,
         count,

@@ -2,7 +2,7 @@
 
 use crate::frames::ZERO_SEED;
 use crate::row::words_of;
-use sip_cli::play_words;
+use sip_cli::{play, read_words};
 use sip_ports::{MemorySink, MemorySource};
 use sip_verifier::Status;
 use std::alloc::Global;
@@ -26,14 +26,17 @@ pub fn run_play(alloc: Global, text: &str) -> Result<Played, Fail> {
     let mut second = MemorySource::new(ZERO_SEED.to_vec(alloc)?, 5, Vec::new(alloc));
     let mut report = MemorySink::new(alloc, 10_000, Vec::new(alloc));
     let mut keep = MemorySink::new(alloc, 10_000, Vec::new(alloc));
-    let ended = play_words(
-        alloc,
-        &words,
-        &mut first,
-        &mut second,
-        &mut report,
-        &mut keep,
-    );
+    let ended = match read_words(&words) {
+        Ok(command) => play(
+            alloc,
+            &command,
+            &mut first,
+            &mut second,
+            &mut report,
+            &mut keep,
+        ),
+        Err(_) => None,
+    };
     Ok(Played {
         ended,
         report,

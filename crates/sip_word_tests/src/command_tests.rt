@@ -313,7 +313,14 @@ const FILES: &[Files<'static>] = &[
 fn check_files(rt: &impl Abort, alloc: Global, rows: &[Files]) -> Result<(), Fail> {
     for (name, want) in rows {
         let words = words(alloc, name)?;
-        let plan = ports(&words);
+        let Ok(command) = read_words(&words) else {
+            // Words that are no command open nothing.
+            Case { name, number: 0 }
+                .holds(*want == NO_FILES)
+                .expect(rt, "a case");
+            continue;
+        };
+        let plan = ports(&words, &command);
         for (opening, file) in [plan.first, plan.second, plan.from, plan.to, plan.keep]
             .iter()
             .zip(*want)
@@ -358,7 +365,9 @@ fn made(opening: &Opening) -> Option<(u64, u64, u8)> {
 
 fn check_made(rt: &impl Abort, alloc: Global, rows: &[Made]) -> Result<(), Fail> {
     for &(name, want) in rows {
-        let plan = ports(&words(alloc, name)?);
+        let words = words(alloc, name)?;
+        let command = read_words(&words)?;
+        let plan = ports(&words, &command);
         Case { name, number: 0 }
             .holds(made(&plan.first) == Some(want))
             .expect(rt, "a case");

@@ -1,7 +1,7 @@
 // Which outputs are not opened, by the files that the openings are on.
 
 use crate::page_tests::words_between;
-use sip_cli::{FileId, Opening, PlanFiles, PortPlan, ports};
+use sip_cli::{FileId, Opening, PlanFiles, PortPlan, ports, read_words};
 use sip_command_tests::case::Case;
 use std::process::Abort;
 use std::test::Fail;
@@ -58,7 +58,8 @@ fn check_spared(rt: &impl Abort, plan: &PortPlan, rows: &[Spared]) {
 
 #[test]
 fn an_output_that_is_another_file_is_left_out(rt: HostRuntime) -> Result<(), Fail> {
-    let plan = ports(&words_between(rt.alloc(), "verify|s|k|f|t|r|20|inner", '|')?);
-    check_spared(&rt, &plan, SPARED);
+    let words = words_between(rt.alloc(), "verify|s|k|f|t|r|20|inner", '|')?;
+    let command = read_words(&words)?;
+    check_spared(&rt, &ports(&words, &command), SPARED);
     Ok(())
 }

@@ -1,0 +1,12 @@
+use Rattle.sip_cli.proofs.Refusals.{spelled_not_refused}
+use Rattle.sip.proofs.Endings.{never_of_page}
+use Rattle.sip.proofs.done.Goals as goal
+
+pub returns-in-Some-clause-spelled : goal.returns-in-Some-clause-spelled
+returns-in-Some-clause-spelled c = λ command spells.
+    let refused = c.in-Some.ensures.refused (cc) in
+    absurd (spelled_not_refused _ command _ spells refused.1)
+
+pub returns-in-Some-clause-usage : goal.returns-in-Some-clause-usage
+returns-in-Some-clause-usage c = λ word e.
+    absurd (never_of_page _ _ _ _ word c.write_page.ensures.page e)

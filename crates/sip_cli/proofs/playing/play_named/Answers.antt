@@ -1,0 +1,35 @@
+use Rattle.std.proofs.Common.{◌≡◌, [], sym, ◌∙◌}
+use Rattle.sip_cli.specs.declared.helper_name.HelperName.TheVariants.{Honest}
+use Rattle.sip_cli.proofs.PlayLemmas.{tells_on}
+use Rattle.sip_cli.proofs.playing.play_named.Goals as goal
+use Rattle.sip_cli.proofs.playing.play_named.Goals.{in-Honest+in_ok-honest-in-Honest+in_ok-link-in-Honest, in-Skewed+in_ok-skewed-in-Skewed+in_ok-link-in-Skewed, in-Mute+in_ok-new-in-Mute+in_ok-link-in-Mute}
+
+-- what follows twice from a promise follows where the promise does
+both_follow : {N P Q R : Type 0} → (P → Q) → (P → R) → (N → P) → (N → Q) × (N → R)
+both_follow one other promise = (λ n. one (promise n), λ n. other (promise n))
+
+pub returns-clause-played : goal.returns-clause-played
+returns-clause-played g c =
+    let fresh : c.match-name.link.kept.talk.items ≡ [] = elim c.match-name.branch [
+      | in-Honest+in_ok-honest-in-Honest+in_ok-link-in-Honest w ↦
+          rw w.link-is w.in_ok-link-in-Honest.ensures.talk
+      | in-Skewed+in_ok-skewed-in-Skewed+in_ok-link-in-Skewed w ↦
+          rw w.link-is w.in_ok-link-in-Skewed.ensures.talk
+      | in-Mute+in_ok-new-in-Mute+in_ok-link-in-Mute w ↦
+          rw w.link-is w.in_ok-link-in-Mute.ensures.talk
+    ] in
+    let both = both_follow c.play.ensures.honest c.play.ensures.accepts
+    (λ (is : c.args.name ≡ Honest). elim c.match-name.branch [
+      | in-Honest+in_ok-honest-in-Honest+in_ok-link-in-Honest w ↦
+          rw w.link-is (w.in_ok-link-in-Honest.ensures.promise is)
+      | in-Skewed+in_ok-skewed-in-Skewed+in_ok-link-in-Skewed w ↦
+          let h = sym w.in-Skewed.is ∙ is in cc
+      | in-Mute+in_ok-new-in-Mute+in_ok-link-in-Mute w ↦ let h = sym w.in-Mute.is ∙ is in cc
+    ]) in
+    record {
+      talk = c.play.new.link.kept.talk.items;
+      keeps = rw fresh at c.play.ensures.keeps;
+      peer = c.play.ensures.peer;
+      honest = both.0;
+      accepts = λ is x tells. both.1 is fresh x (tells_on fresh tells);
+    }
