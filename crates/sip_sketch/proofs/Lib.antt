@@ -5,3 +5,4 @@ pub mod HeadFields
 pub mod Closing
 pub mod SeatFields
 pub mod Seats
+pub mod Apart

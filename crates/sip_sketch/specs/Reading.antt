@@ -31,3 +31,9 @@ Takes old new fields found behind (Err fault) = Faults old fields fault
 abbrev pub Gives : Result (List ℕ) ℕ → Result SketchValues SketchFault → Type 0
 Gives read (Ok sketch) = read ≡ Ok (numbers sketch)
 Gives read (Err fault) = IsFaultOf read fault
+
+-- the sketch is this one, or memory was refused
+abbrev pub IsReadAs : SketchValues → Result SketchValues SketchFault → Type 0
+IsReadAs sketch (Ok found) = found ≡ sketch
+IsReadAs sketch (Err (Bad offset)) = ⊥
+IsReadAs sketch (Err OutOfMemory) = ⊤

@@ -2,6 +2,7 @@
 
 ghost use Rattle.std.specs.Prelude.{◌≡◌, ◌<◌, ℕ, List, Ok, All};
 ghost use Rattle.sip_sketch.specs.Fields.{AreValues, Fields, read, spelling};
+ghost use Rattle.sip_sketch.specs.Sketches.{IsSketch, SketchValues, numbers};
 
 /// Whatever the fields: what is read are values of the fields that spell the file, and the file
 /// that values of the fields spell is read as these.
@@ -11,4 +12,10 @@ pub fn reading_is_exact()
         → AreValues fields values × (bytes ≡ spelling fields values) }
     ensures only { (fields : Fields) (values : List ℕ) → AreValues fields values
         → read fields (spelling fields values) ≡ Ok values }
+{}
+
+/// Two sketches that a file can have, and that have the same numbers, are the same.
+pub fn numbers_tell_sketches_apart()
+    ensures { (one other : SketchValues) → IsSketch one → IsSketch other
+        → numbers one ≡ numbers other → one ≡ other }
 {}

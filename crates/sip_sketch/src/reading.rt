@@ -3,12 +3,12 @@
 ghost use Rattle.std.specs.Prelude.{◌≡◌, ◌≤◌, ℕ, List, length, All, IfOk, IfErr, Ok, flat_map};
 ghost use Rattle.sip_vector.specs.Streams.{most_weight};
 ghost use Rattle.sip_sketch.specs.Fields.{Fields, closed, digest, read};
-ghost use Rattle.sip_sketch.specs.Reading.{Gives, IsFaultOf, Takes};
+ghost use Rattle.sip_sketch.specs.Reading.{Gives, IsFaultOf, IsReadAs, Takes};
 ghost use Rattle.sip_sketch.specs.Sketches.{IsSketch, bits_of, elements, fixed, magic, spelled_file};
 ghost use Rattle.sip_sketch.specs.Sketches.{parts_fields, parts_numbers, seat_fields, seat_numbers};
 ghost use Rattle.sip_sketch.specs.Sketches.{seats_fields, sketch_file, tally_fields};
 ghost use Rattle.sip_sketch.specs.Sketches.{code_of, most_seats, ranged, second_of, tally_numbers};
-ghost use Rattle.sip_sketch.specs.Sketches.{total_field};
+ghost use Rattle.sip_sketch.specs.Sketches.{SketchValues, total_field};
 ghost use Rattle.sip_sketch.specs.inside.Heads.{head_numbers};
 ghost use Rattle.sip_sketch.specs.declared.cursor.Size.TheVariants.{Long};
 ghost use Rattle.std.specs.Int.{from_bool};
@@ -212,7 +212,7 @@ fn take_seats(
     ensures takes { Takes cursor.old cursor.new (seats_fields depth (second_of tally.now) count)
         (λ seats. flat_map seat_numbers seats.items) (λ _. digest) result }
     ensures length { IfOk result (λ seats. length seats.items ≡ count) }
-    ensures blocks { IfOk result (λ seats. All (λ seat. length seat.block ≡ depth) seats.items) }
+    ensures each { IfOk result (λ seats. All (λ seat. length seat.block ≡ depth) seats.items) }
 {
     let mut seats = Vec::with_capacity(alloc, count as usize)?;
     for _ in 0..count {
@@ -252,6 +252,8 @@ impl Sketch {
     pub fn read(alloc: Global, bytes: &[u8]) -> Result<Sketch, SketchFault>
         ensures exact { Gives (read sketch_file bytes.now) result }
         ensures found { IfOk result (λ s. IsSketch s × (bytes.now ≡ spelled_file s)) }
+        ensures only { (sketch : SketchValues) → IsSketch sketch
+            → bytes.now ≡ spelled_file sketch → IsReadAs sketch result }
     {
         let mut cursor = Cursor::new(bytes);
         let head = take_head(&mut cursor)?;
