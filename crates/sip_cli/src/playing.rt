@@ -36,8 +36,8 @@ pub(crate) fn skewed(alloc: Global) -> Result<Box<Skewed>, OutOfMemory> {
     Ok(Box::new(alloc, Skewed::new(alloc))?)
 }
 
-// A link to a boxed helper, which is the one of this name: so much is asked of the name, and what the
-// box shows nowhere else.
+// A link to a boxed helper, which is the one of this name: so much is asked of the name, and what
+// the box shows nowhere else.
 fn link_to(
     alloc: Global,
     name: HelperName,
@@ -89,8 +89,8 @@ fn play_named<A: Source, B: Source, K: Sink, C: Sink>(
 
 /// Does a command `play`; another one gives `None`, and then no port is called.
 ///
-/// `play STREAM SEED HELPER RECORD DEPTH QUERY..` is [`obey`](crate::obey) over a link to the helper
-/// of that name, which is made here, and is closed and dropped at the end. `keep` gets the
+/// `play STREAM SEED HELPER RECORD DEPTH QUERY..` is [`obey`](crate::obey) over a link to the
+/// helper of that name, which is made here, and is closed and dropped at the end. `keep` gets the
 /// transcript of the run. Memory grows with the entries that are not 0, which the helper keeps, and
 /// with the talk, which the link keeps. Where memory is refused to the helper or the link, the run
 /// ends at once for want of it.

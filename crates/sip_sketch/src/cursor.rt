@@ -1,7 +1,7 @@
 //! Reads a file, number by number.
 
-ghost use Rattle.std.specs.Prelude.{◌≡◌, ◌≤◌, ℕ, [], ◌∷◌, length, take, drop, nat_lt, Some, None, IfOk};
-ghost use Rattle.std.specs.Prelude.{if◌then◌else◌};
+ghost use Rattle.std.specs.Prelude.{◌≡◌, ◌≤◌, ℕ, [], ◌∷◌, length, take, drop, nat_lt, Some, None};
+ghost use Rattle.std.specs.Prelude.{IfOk, if◌then◌else◌};
 ghost use Rattle.std.specs.Int.{byte_len, from_be_bytes};
 ghost use Rattle.sip_sketch.specs.Fields.{Fields, one, width_of};
 ghost use Rattle.sip_sketch.specs.Sketches.{negatives_field, ranged};

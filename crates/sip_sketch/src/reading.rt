@@ -4,7 +4,8 @@ ghost use Rattle.std.specs.Prelude.{◌≡◌, ◌≤◌, ℕ, List, length, All
 ghost use Rattle.sip_vector.specs.Streams.{most_weight};
 ghost use Rattle.sip_sketch.specs.Fields.{Fields, closed, digest, read};
 ghost use Rattle.sip_sketch.specs.Reading.{Gives, IsFaultOf, IsReadAs, Takes};
-ghost use Rattle.sip_sketch.specs.Sketches.{IsSketch, bits_of, elements, fixed, magic, spelled_file};
+ghost use Rattle.sip_sketch.specs.Sketches.{IsSketch, bits_of, elements, fixed, magic};
+ghost use Rattle.sip_sketch.specs.Sketches.{spelled_file};
 ghost use Rattle.sip_sketch.specs.Sketches.{parts_fields, parts_numbers, seat_fields, seat_numbers};
 ghost use Rattle.sip_sketch.specs.Sketches.{seats_fields, sketch_file, tally_fields};
 ghost use Rattle.sip_sketch.specs.Sketches.{code_of, most_seats, ranged, second_of, tally_numbers};
