@@ -7,10 +7,5 @@ returns-in-Some g c =
     let (task, name, is, played) = c.in-Some.ensures.played in
     subst (λ k. Ends k c.in-Some.status) (sym is) played.keeps.listed
 
-pub returns-in-Some-2 : goal.returns-in-Some-2
-returns-in-Some-2 g c =
-    let (task, names, is, seated) = c.in-Some-2.ensures.seated in
-    subst (λ k. Ends k c.in-Some-2.status) (sym is) seated.keeps.listed
-
 pub returns : goal.returns
 returns g c = c.obey.ensures.done.keeps.listed _ refl
