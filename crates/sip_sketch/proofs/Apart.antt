@@ -1,13 +1,11 @@
 -- The numbers of a sketch tell it apart.
-use Rattle.std.proofs.Common.{◌≡◌, ℕ, zero, suc, ◌+◌, ◌*◌, ◌/◌, ◌%◌, ◌<◌, Bool, true, false, nat_eq, List, [], ◌∷◌, ◌++◌, length, get_or, take, drop, flat_map, All, refl, sym, ap, subst, ◌∙◌, append_assoc, arith}
+use Rattle.std.proofs.Common.{◌≡◌, ℕ, zero, suc, ◌+◌, ◌*◌, ◌/◌, ◌%◌, Bool, true, false, nat_eq, List, [], ◌∷◌, ◌++◌, length, get_or, take, drop, flat_map, All, refl, sym, ap, subst, ◌∙◌, append_assoc, arith}
 use Rattle.std.specs.Int.{from_bool}
 use Rattle.std.proofs.lemmas.List.{take_at, drop_at}
 use Rattle.sip_vector.specs.declared.tally.Negatives.{Negatives}
-use Rattle.sip_vector.specs.declared.tally.Tally.{Tally}
 use Rattle.sip_vector.specs.declared.update.Side.TheVariants.{First, Second}
 use Rattle.sip_sketch.specs.declared.kind.SeatKind.{SeatKind}
 use Rattle.sip_sketch.specs.declared.kind.SeatKind.TheVariants.{Entries, Sums, Products, Heavy}
-use Rattle.sip_sketch.specs.declared.parts.Parts.{Parts}
 use Rattle.sip_sketch.specs.declared.fault.SketchFault.{SketchFault}
 use Rattle.sip_sketch.specs.declared.fault.SketchFault.TheVariants.{Bad, OutOfMemory}
 use Rattle.sip_sketch.specs.Fields.{read}

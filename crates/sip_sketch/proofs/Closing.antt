@@ -1,15 +1,14 @@
 -- The end of a file, and all of it.
-use Rattle.std.proofs.Common.{◌≡◌, ℕ, ◌<◌, Bool, true, false, not, cond, ltb, List, [], ◌++◌, length, take, drop, flat_map, Result, Ok, Err, refl, sym, ap, subst, ◌∙◌, arith, inl, inr, bytes_eq}
+use Rattle.std.proofs.Common.{◌≡◌, ℕ, ◌<◌, Bool, true, false, not, List, [], ◌++◌, length, take, drop, flat_map, Ok, Err, refl, sym, ap, ◌∙◌, arith, inl, inr, bytes_eq}
 use Rattle.std.proofs.lemmas.Bool.{cases_Bool}
 use Rattle.std.proofs.lemmas.List.{length-take}
 use Rattle.std.proofs.lemmas.Slice.Eq.{bytes_eq-Decides}
 use Rattle.sha2.specs.Sha256.{sha256}
 use Rattle.sha2.proofs.Facts256.{length-sha256}
 use Rattle.sip_sketch.specs.declared.cursor.Cursor.{Cursor}
-use Rattle.sip_sketch.specs.declared.fault.SketchFault.{SketchFault}
 use Rattle.sip_sketch.specs.declared.reading.Head.{Head}
 use Rattle.sip_sketch.specs.Fields.{Fields, digest, closed, reads, read}
-use Rattle.sip_sketch.specs.Reading.{IsFaultOf, Passes, Faults}
+use Rattle.sip_sketch.specs.Reading.{Passes}
 use Rattle.sip_sketch.specs.Sketches.{SeatValues, seat_numbers, seats_fields, second_of, sketch_file, numbers}
 use Rattle.sip_sketch.specs.inside.Heads.{head_numbers}
 use Rattle.sip_sketch.proofs.Steps.{passes_on}

@@ -1,10 +1,10 @@
 -- The fields of a head that stand behind each other.
-use Rattle.std.proofs.Common.{◌≡◌, ℕ, zero, suc, ◌+◌, ◌-◌, ◌*◌, ◌/◌, ◌%◌, ◌^◌, ◌≤◌, Bool, true, false, nat_eq, refl, arith}
+use Rattle.std.proofs.Common.{◌≡◌, ℕ, zero, suc, ◌+◌, ◌-◌, ◌*◌, ◌/◌, ◌%◌, ◌^◌, ◌≤◌, nat_eq, refl, arith}
 use Rattle.std.specs.Int.{from_bool}
 use Rattle.sip_vector.specs.Streams.{most_weight}
 use Rattle.sip_sketch.specs.Fields.{Fields, one}
 use Rattle.sip_vector.specs.Limits.{most_depth}
-use Rattle.sip_sketch.specs.Sketches.{byte, long, word, negatives_field, most_seats, second_field, seats_fields, tally_fields, parts_fields}
+use Rattle.sip_sketch.specs.Sketches.{byte, long, negatives_field, most_seats, second_field, seats_fields, tally_fields, parts_fields}
 
 abbrev pub behind_bits : (ℕ → ℕ → ℕ → Fields) → ℕ → ℕ → ℕ → Fields
 behind_bits behind first second bits = one (long 0 (2 ^ 64 - 1)) (λ _. behind first second bits)

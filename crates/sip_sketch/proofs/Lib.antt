@@ -6,3 +6,4 @@ pub mod Closing
 pub mod SeatFields
 pub mod Seats
 pub mod Apart
+pub mod Putting

@@ -1,9 +1,9 @@
 -- Seats, one behind the other.
-use Rattle.std.proofs.Common.{◌≡◌, ℕ, suc, ◌+◌, ◌<◌, ◌≤◌, List, [], ◌∷◌, ◌++◌, All, flat_map, get_or, length, sym, ap, ◌∙◌, arith, inl, inr, rules}
+use Rattle.std.proofs.Common.{◌≡◌, ℕ, suc, List, [], ◌∷◌, ◌++◌, All, flat_map, length, sym, ap, ◌∙◌}
 use Rattle.std.proofs.lemmas.List.{append-nil}
 use Rattle.std.proofs.lemmas.List.Elements.{All-push}
 use Rattle.std.proofs.lemmas.Grind.{flat_map-append}
-use Rattle.sip_sketch.specs.Fields.{Field, Fields}
+use Rattle.sip_sketch.specs.Fields.{Field}
 use Rattle.sip_sketch.specs.Sketches.{SeatValues, seat_fields, seat_numbers, seats_fields}
 
 pub seats_at : (d : ℕ) (number : ℕ → ℕ → Field) (n m : ℕ) → n ≡ suc m

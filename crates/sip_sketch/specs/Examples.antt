@@ -1,5 +1,5 @@
 -- A sketch at depth 2 with a seat for entries and one for sums of side 0, as its seed draws them.
-use Rattle.std.specs.Prelude.{ℕ, ◌+◌, false, true, List, [], ◌∷◌, ◌++◌, length, take, drop}
+use Rattle.std.specs.Prelude.{ℕ, ◌+◌, false, List, [], ◌∷◌, ◌++◌, length, take, drop}
 use Rattle.std.specs.Int.{w64, to_be_bytes}
 use Rattle.sip_vector.specs.Streams.{most_weight}
 use Rattle.sip_sketch.specs.Sketches.{SketchValues}

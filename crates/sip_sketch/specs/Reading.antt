@@ -1,5 +1,5 @@
 -- How a file is read, part by part.
-use Rattle.std.specs.Prelude.{◌≡◌, ℕ, ⊤, List, [], ◌∷◌, ◌++◌, Result, Ok, Err}
+use Rattle.std.specs.Prelude.{◌≡◌, ℕ, ⊤, List, ◌++◌, Result, Ok, Err}
 use Rattle.sip_sketch.specs.Fields.{Fields, reads}
 use Rattle.sip_sketch.specs.Sketches.{SketchValues, numbers}
 use Rattle.sip_sketch.specs.declared.cursor.Cursor.{Cursor}

@@ -1,7 +1,7 @@
 -- What a sketch has, and its file.
 use Rattle.std.specs.Prelude.{◌≡◌, ℕ, zero, suc, ◌+◌, ◌-◌, ◌*◌, ◌/◌, ◌%◌, ◌^◌, ◌==◌, Bool, ◌&&◌}
 use Rattle.std.specs.Prelude.{◌||◌, nat_le, nat_lt, List, [], ◌∷◌, ◌++◌, length, All, flat_map}
-use Rattle.std.specs.Prelude.{if◌then◌else◌, false, true}
+use Rattle.std.specs.Prelude.{if◌then◌else◌}
 use Rattle.std.specs.Int.{from_bool}
 use Rattle.sip_field.specs.Moduli.{m61_modulus}
 use Rattle.sip_vector.specs.Limits.{most_depth}
@@ -157,3 +157,7 @@ pub record IsSketch (s : SketchValues) : Type 0 where
 -- its file
 abbrev pub spelled_file : SketchValues → List ℕ
 spelled_file s = spelling sketch_file (numbers s)
+
+-- how many bytes it has
+abbrev pub size_of : SketchValues → ℕ
+size_of s = 84 + length s.seats * (18 + 8 * s.depth)

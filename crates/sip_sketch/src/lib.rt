@@ -1,4 +1,30 @@
-//! What a verifier keeps of a stream, in a file.
+//! What a verifier keeps of a stream, in a file, so that it may run for weeks and be started again.
+//!
+//! A sketch has the depth of its vectors, which parts of a stream are in, what is told of the stream
+//! so far ([`Tally`](sip_vector::Tally)), and 1 to 64 seats. Each seat serves one question, and has
+//! challenges of its own and one running number or two. Whoever reads them before the question can
+//! make any answer accepted: no call shows them, and the file is for its owner alone.
+//!
+//! # What is proved
+//!
+//! - A file is one grammar: a field, and by its value the fields behind it, down to the SHA-256
+//!   digest of all bytes before ([`laws::reading_is_exact`], for any such file).
+//! - [`Sketch::read`] answers a sketch exactly where the bytes are its file, and else the place
+//!   where the first field begins that has none of its values. The digest finds decay and slips of
+//!   the hand; it keeps nobody out, since anybody can make it.
+//! - [`Sketch::write`] writes that file, and takes memory only where there is less room than the
+//!   file has bytes ([`Sketch::size`]).
+//!
+//! # The definitions to read
+//!
+//! | file of `specs/` | what it defines |
+//! |---|---|
+//! | `Fields` | files of numbers, each of which says what stands behind it: spelling and reading |
+//! | `Sketches` | what a sketch has, its numbers in their order, the fields of its file |
+//! | `Reading` | what reading answers, and the sketch or the fault that this is |
+//! | `Examples` | what the examples work out |
+//!
+//! [`examples`] has two files with their digests, and the first faults of others.
 #![tactic(auto)]
 
 mod cursor;
@@ -9,6 +35,7 @@ pub mod laws;
 mod parts;
 mod reading;
 mod sketch;
+mod writing;
 
 pub use fault::SketchFault;
 pub use kind::SeatKind;

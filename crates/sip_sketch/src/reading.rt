@@ -96,13 +96,14 @@ fn take_tally(cursor: &mut Cursor) -> Result<Tally, SketchFault>
     })
 }
 
-// Some numbers of the head: the depth, the parts, what is told of the stream, and how many seats.
+/// The numbers in front of the seats: the depth, the parts, what is told of the stream, and how many
+/// seats there are.
 #[derive(Clone, Copy)]
-struct Head {
-    depth: Depth,
-    parts: Parts,
-    tally: Tally,
-    count: u64,
+pub(crate) struct Head {
+    pub(crate) depth: Depth,
+    pub(crate) parts: Parts,
+    pub(crate) tally: Tally,
+    pub(crate) count: u64,
 }
 
 // The head.

@@ -1,6 +1,4 @@
-use Rattle.std.proofs.Common.{◌≡◌, ℕ, List, [], ◌∷◌, ◌++◌, sym, ap, subst, ◌∙◌}
 use Rattle.std.proofs.lemmas.Result.{err_from_is_err_and}
-use Rattle.sip_sketch.specs.Reading.{Passes, Faults}
 use Rattle.sip_sketch.specs.Sketches.{seats_fields, second_of}
 use Rattle.sip_sketch.proofs.HeadFields.{behind_magic, behind_depth, behind_parts, behind_tally}
 use Rattle.sip_sketch.proofs.Steps.{passes_on, fault_behind}

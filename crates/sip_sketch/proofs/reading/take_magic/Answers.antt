@@ -1,6 +1,6 @@
-use Rattle.std.proofs.Common.{◌≡◌, ◌+◌, ◌<◌, [], ◌∷◌, refl, subst, take, drop, arith}
+use Rattle.std.proofs.Common.{◌≡◌, ◌+◌, [], ◌∷◌, refl, subst, take, drop, arith}
 use Rattle.std.proofs.lemmas.Result.{err_from_is_err_and}
-use Rattle.sip_sketch.specs.Fields.{Fields, one}
+use Rattle.sip_sketch.specs.Fields.{one}
 use Rattle.sip_sketch.specs.Reading.{Passes}
 use Rattle.sip_sketch.specs.Sketches.{byte, fixed, magic}
 use Rattle.sip_sketch.proofs.Steps.{passes_next, fault_next, fixed_at, take_next}

@@ -1,8 +1,8 @@
-use Rattle.std.proofs.Common.{◌≡◌, ℕ, List, [], ◌∷◌, ◌++◌, sym, ap, ap₂, subst, ◌∙◌, append_assoc}
+use Rattle.std.proofs.Common.{◌≡◌, [], ◌∷◌, ap₂, subst, ◌∙◌, append_assoc}
 use Rattle.std.proofs.lemmas.Result.{err_from_is_err_and}
-use Rattle.sip_sketch.specs.Fields.{Field, Fields, one}
+use Rattle.sip_sketch.specs.Fields.{one}
 use Rattle.sip_sketch.specs.Reading.{Passes, Faults}
-use Rattle.sip_sketch.specs.Sketches.{long, ranged, seat_fields, second_of, code_of}
+use Rattle.sip_sketch.specs.Sketches.{ranged, seat_fields, second_of}
 use Rattle.sip_sketch.specs.declared.cursor.Size.TheVariants.{Long}
 use Rattle.sip_sketch.proofs.SeatFields.{after_kind, after_used, after_block, after_first}
 use Rattle.sip_sketch.proofs.Steps.{passes_on, fault_behind, bit_back}

@@ -1,7 +1,7 @@
-use Rattle.std.proofs.Common.{◌≡◌, ℕ, suc, ◌+◌, ◌-◌, ◌<◌, List, [], ◌∷◌, ◌++◌, All, flat_map, length, sym, ap, subst, ◌∙◌, arith}
+use Rattle.std.proofs.Common.{◌≡◌, suc, ◌+◌, ◌-◌, [], ◌∷◌, ◌++◌, flat_map, subst, arith}
 use Rattle.std.proofs.lemmas.Result.{err_from_is_err_and}
-use Rattle.std.proofs.lemmas.List.{append-nil, length-append}
-use Rattle.sip_sketch.specs.Reading.{Passes, Faults}
+use Rattle.std.proofs.lemmas.List.{length-append}
+use Rattle.sip_sketch.specs.Reading.{Passes}
 use Rattle.sip_sketch.specs.Sketches.{seat_numbers, seats_fields, second_of}
 use Rattle.sip_sketch.proofs.Steps.{passes_on, fault_behind}
 use Rattle.sip_sketch.proofs.Seats.{seats_at, numbers_on, blocks_on}

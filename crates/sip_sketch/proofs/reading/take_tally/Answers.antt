@@ -1,4 +1,3 @@
-use Rattle.std.proofs.Common.{subst, sym, ap}
 use Rattle.std.proofs.lemmas.Result.{err_from_is_err_and}
 use Rattle.sip_sketch.proofs.HeadFields.{behind_first, behind_second, behind_count, behind_bits, bits_back}
 use Rattle.sip_sketch.proofs.Steps.{passes_on, fault_behind}

@@ -1,4 +1,4 @@
-use Rattle.std.proofs.Common.{◌≡◌, ◌<◌, [], Ok, Err, sym, subst, ◌∙◌, get_or, arith}
+use Rattle.std.proofs.Common.{[], Ok, Err, sym, subst, ◌∙◌, arith}
 use Rattle.std.proofs.lemmas.Result.{err_from_is_err_and}
 use Rattle.sip_sketch.specs.Reading.{IsFaultOf}
 use Rattle.sip_sketch.specs.Sketches.{sketch_file}
