@@ -20,8 +20,8 @@ const WATCHED: [u8; 152] = [
 
 // Where its fields begin.
 const FIELDS: [usize; 28] = [
-    0, 1, 2, 3, 4, 5, 6, 10, 14, 18, 26, 34, 42, 43, 51, 52, 53, 54, 62, 70, 78, 86, 87, 88, 96, 104,
-    112, 120,
+    0, 1, 2, 3, 4, 5, 6, 10, 14, 18, 26, 34, 42, 43, 51, 52, 53, 54, 62, 70, 78, 86, 87, 88, 96,
+    104, 112, 120,
 ];
 
 // A byte that is changed, what it is then, and where the first fault is.
