@@ -8,7 +8,7 @@ from harness.settings import reachable, stream_word
 from harness.tables import Table
 
 
-# A stream whose items are heavy at most levels, and queries whose replies are a transcript of some 40 MB.
+# A stream whose items are heavy at most levels, and queries whose replies are a transcript of some 25 MB.
 HEAVY = ["heavy:0:35"] * 16
 HEAVY_DEPTH = 20
 HEAVY_RECORDS = 1_000_000
