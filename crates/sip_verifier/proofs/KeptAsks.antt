@@ -1,5 +1,5 @@
 -- What a call keeps that asks one query, by what came of it.
-use Rattle.std.proofs.Common.{◌≡◌, ◌⊎◌, ◌≤◌, ℕ, Result, Ok, Err, List, refl, ap, inl, inr}
+use Rattle.std.proofs.Common.{◌≡◌, ◌⊎◌, ◌≤◌, ℕ, Result, Ok, Err, List, refl, inl, inr}
 use Rattle.sip_ports.specs.Ports.{Rose}
 use Rattle.sip_ports.proofs.FaultLemmas.{Rose-since}
 use Rattle.sip_vector.specs.declared.update.Entry.{Entry}

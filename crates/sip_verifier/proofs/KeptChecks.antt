@@ -1,9 +1,9 @@
 -- What a call keeps that asks queries and writes their lines, by what its parts keep.
-use Rattle.std.proofs.Common.{◌≡◌, ◌⊎◌, ◌≤◌, ℕ, Result, Ok, Err, refl, sym, ap, subst, ◌∙◌, inl, inr}
+use Rattle.std.proofs.Common.{◌≡◌, ◌⊎◌, ◌≤◌, ℕ, Result, Ok, Err, refl, sym, subst, inl, inr}
 use Rattle.std.specs.Prelude.{IsErrOf, IsTrue}
 use Rattle.sip_ports.specs.declared.port.PortStop.{PortStop}
 use Rattle.sip_ports.specs.declared.port.PortStop.TheVariants as port_stops
-use Rattle.sip_ports.specs.Ports.{Rose, SendsWhole}
+use Rattle.sip_ports.specs.Ports.{Rose}
 use Rattle.sip_ports.proofs.FaultLemmas.{Rose-since}
 use Rattle.sip_wire.specs.declared.message.Reason.{Reason}
 use Rattle.sip_wire.specs.declared.version.Version.{Version}
@@ -15,7 +15,7 @@ use Rattle.sip_verifier.specs.declared.status.Status.{Status}
 use Rattle.sip_verifier.specs.declared.status.Status.TheVariants as statuses
 use Rattle.sip_verifier.specs.AskClause.{AskClause}
 use Rattle.sip_verifier.specs.CheckClause.{CheckClause}
-use Rattle.sip_verifier.specs.inside.Ending.{status_of_fault, status_of_link, status_of_report}
+use Rattle.sip_verifier.specs.inside.Ending.{status_of_fault}
 use Rattle.sip_verifier.specs.Keeping.{AllIsKept, KeepsTalk, WholeIsKept}
 use Rattle.sip_verifier.specs.Snapshots.{Counts, SinkState, counts}
 use Rattle.sip_verifier.specs.Statuses.{FaultClause, Stops, stops_asking}

@@ -31,7 +31,7 @@ use Rattle.sip_sums.specs.AcceptsSum.{product_at}
 use Rattle.sip_sums.specs.Protocol.{SumState, sum_asked, sum_protocol}
 use Rattle.sip_sums.specs.Questions.{Lists, lists, lists_of}
 use Rattle.sip_verifier.specs.Asking.{Asks}
-use Rattle.sip_verifier.specs.inside.Judging as judging
+use Rattle.sip_verifier.specs.Rooms.{most_places}
 use Rattle.sip_verifier.specs.inside.Judging.{found_in, verdict_of}
 use Rattle.sip_verifier.specs.QuerySeats.{RunningNumbers, Seated, root_is, point_is, points_are, aug_root_is, RunsOn, StandsFor, is_seat}
 use Rattle.sip_wire.specs.Versions.{Speaks}
@@ -52,8 +52,8 @@ seat_has_spelling version s seat speaks =
 
 -- its answer has room
 pub sub_has_room : (s : Seated) (lo hi room : ℕ) → s.query ≡ Sub lo hi
-    → judging.most_places s.query s.running ≤ room → most_answer lo hi ≤ room
-sub_has_room s lo hi room is has = subst (λ (q : Query). judging.most_places q s.running ≤ room) is has
+    → most_places s.query s.running ≤ room → most_answer lo hi ≤ room
+sub_has_room s lo hi room is has = subst (λ (q : Query). most_places q s.running ≤ room) is has
 
 -- its protocol is that of the stream for which its root stands
 sub_is_protocol : (version : Version) (depth : ℕ) (stream : List Update) (query : Query) (block : List ℕ)

@@ -9,7 +9,7 @@ use Rattle.sip_verifier.specs.NextSeat.{IsNext}
 use Rattle.sip_verifier.specs.QuerySeats.{RunningNumbers, RunsOn, Seated, aug_root_is, point_is, points_are, root_is}
 use Rattle.sip_verifier.proofs.SeatAsked.{same_power}
 
-runs_levels : (depth : ℕ) (stream : List Update) (query : Query) (block : List ℕ) (running : RunningNumbers) → RunsOn depth stream query block running → length block ≡ depth
+pub runs_levels : (depth : ℕ) (stream : List Update) (query : Query) (block : List ℕ) (running : RunningNumbers) → RunsOn depth stream query block running → length block ≡ depth
 runs_levels depth stream (Sub lo hi) block (root_is v) r = same_power (length block) depth (sym r.whole ∙ length-vector depth stream First)
 runs_levels depth stream (Sub lo hi) block (point_is v) r = absurd r
 runs_levels depth stream (Sub lo hi) block (points_are v w) r = absurd r

@@ -87,7 +87,8 @@ share_some num den sum some less is = subst (λ n. 1 ≤ n) (sym is) (share_leas
 
 -- ---- by the stream
 
-seat_width : (depth : ℕ) (stream : List Update) (query : Query) (block : List ℕ) (running : RunningNumbers) → All (λ (u : Update). u.item < 2 ^ depth) stream
+-- the answer at a seat may be too wide where that of the stream may
+pub seat_width : (depth : ℕ) (stream : List Update) (query : Query) (block : List ℕ) (running : RunningNumbers) → All (λ (u : Update). u.item < 2 ^ depth) stream
     → RunsOn depth stream query block running → is_wide_seat query running ≡ is_too_wide stream query
 seat_width depth stream (Sub lo hi) block running below runs = refl
 seat_width depth stream (Range side lo hi) block running below runs = refl

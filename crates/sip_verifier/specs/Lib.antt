@@ -16,6 +16,8 @@ pub mod KeepClause
 pub mod Examples
 pub mod Tasks
 pub mod QuerySeats
+pub mod Running
+pub mod Rooms
 pub mod Weights
 pub mod Widths
 pub mod Seats

@@ -1,5 +1,4 @@
 -- What only the contracts of private functions cite: no promise rests on a reading of it.
-pub mod Running
 pub mod Drawing
 pub mod Raising
 pub mod Sending

@@ -21,6 +21,8 @@
 //! | `Statuses` | which statuses a run may answer, and which count of faults each needs |
 //! | `Promises`, `RunClause` | the seven clauses together, and all that a run keeps |
 //! | `QuerySeats`, `Seats`, `NextSeat` | which streams running numbers stand for; the next seat |
+//! | `Running` | running numbers as they are kept, and how those of two streams add up |
+//! | `Rooms` | how much room the question of a seat needs |
 //! | `SeatNumbers` | the running number that a seat shows |
 //! | `Widths` | the first query whose answer may be too wide |
 //! | `Feeding` | what is still to send of a stream |
@@ -43,6 +45,11 @@
 //! seats one by one ([`Seats::root`], [`Seats::point`]), and [`ask_sub`] asks for a sub-vector by
 //! such a root, with the contract of [`Session::ask`].
 //!
+//! A caller that keeps what a stream left, or adds up what several left, has the [`Running`]
+//! numbers of each query by itself: [`Running::update_all`] and [`Running::absorb`]. A
+//! [`QuerySeat`] is made of them once the query is known, and [`ask_seat`] asks it, with the same
+//! contract.
+//!
 //! [`conclude_session`] is [`conclude_run`] for a session. That serves whatever asks the questions
 //! of a run ([`Asker`]): its contract is said by the manner in which the asker asks, so a run of
 //! other questions has the same clauses by a type of its own.
@@ -60,6 +67,7 @@ pub mod laws;
 mod points;
 mod queries;
 mod report;
+mod running;
 mod seat;
 mod seat_asking;
 mod seat_numbers;
@@ -76,8 +84,12 @@ pub use concluding::conclude_run;
 pub use ending::{on_link, on_report, status_of_fault};
 pub use feed::Feed;
 pub use gathering::{draw, follow, gather, on_stream};
+pub use points::Points;
 pub use queries::QueryGiven;
-pub use report::{query_word, write_dropped};
+pub use report::{query_word, write_dropped, write_number, write_pairs};
+pub use running::Running;
+pub use seat::QuerySeat;
+pub use seat_asking::ask_seat;
 pub use seats::Seats;
 pub use session::{Session, SessionFault, SessionStart, Verdict};
 pub use status::{Port, Status};

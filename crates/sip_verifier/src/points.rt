@@ -1,12 +1,15 @@
 //! The extensions of two vectors at the same challenges.
 
-ghost use Rattle.std.specs.Prelude.{◌≡◌, ◌<◌, ◌≤◌, ◌^◌, ℤ, pos, List, length, replicate, All};
+ghost use Rattle.std.specs.Prelude.{◌≡◌, ◌<◌, ◌≤◌, ◌^◌, ◌+◌, ◌%◌, ℕ, ℤ, pos, List, ◌++◌, length};
+ghost use Rattle.std.specs.Prelude.{replicate, All};
 ghost use Rattle.sip_field.specs.Elements.{m61_number};
 ghost use Rattle.sip_field.specs.Moduli.{m61_modulus};
 ghost use Rattle.sip_mle.specs.StandsFor.{PointStandsFor};
+ghost use Rattle.sip_vector.specs.declared.update.Side.{Side as AnySide};
 ghost use Rattle.sip_vector.specs.declared.update.Side.TheVariants as sides;
+ghost use Rattle.sip_vector.specs.declared.update.Update.{Update as AnyUpdate};
 ghost use Rattle.sip_vector.specs.Limits.{most_depth};
-ghost use Rattle.sip_vector.specs.Streams.{of_side};
+ghost use Rattle.sip_vector.specs.Streams.{of_side, vector};
 ghost use Rattle.sip_vector.specs.Weights.{numbers_after};
 
 use sip_field::{Field, M61, Seat};
@@ -15,16 +18,16 @@ use sip_vector::{CAP, Side, Update};
 
 /// The extensions of both sides' vectors at the same challenges, which are kept once.
 #[derive(Drop)]
-pub(crate) struct Points {
+pub struct Points {
     /// That of the first side's vector, with the challenges.
-    pub(crate) first: Point<M61, CAP>,
+    pub first: Point<M61, CAP>,
     /// That of the second side's vector.
-    pub(crate) second: M61,
+    pub second: M61,
 }
 
 impl Points {
     /// The extensions of zeros.
-    pub(crate) fn new(block: Seat<M61, CAP>) -> Points
+    pub fn new(block: Seat<M61, CAP>) -> Points
         ensures seat { result.first.seat ≡ block }
         ensures first { PointStandsFor m61_modulus block result.first.value
             (replicate (2 ^ length block) (pos 0)) }
@@ -38,7 +41,7 @@ impl Points {
     }
 
     /// Adds updates of one side to its extension.
-    pub(crate) fn update_all(&mut self, side: Side, updates: &[Update])
+    pub fn update_all(&mut self, side: Side, updates: &[Update])
         requires depth { length self.old.first.seat ≤ most_depth }
         requires items { All (λ u. u.item < 2 ^ length self.old.first.seat) updates.now }
         requires sides { All (λ u. u.side ≡ side) updates.now }
@@ -60,6 +63,36 @@ impl Points {
                 self.swap();
             }
         }
+    }
+
+    /// The extensions of the entrywise sums, where `other` has those of more numbers at the same
+    /// challenges.
+    ///
+    /// Two additions, and no memory.
+    pub fn absorb(&mut self, other: &Points)
+        requires { other.now.first.seat ≡ self.old.first.seat }
+        ensures seat { self.new.first.seat ≡ self.old.first.seat }
+        ensures first { self.new.first.value
+            ≡ (self.old.first.value + other.now.first.value) % m61_modulus }
+        ensures second { m61_number self.new.second
+            ≡ (m61_number self.old.second + m61_number other.now.second) % m61_modulus }
+        ensures first_joins { (depth : ℕ) (stream more : List AnyUpdate) (side : AnySide)
+            → PointStandsFor m61_modulus self.old.first.seat self.old.first.value
+            (vector depth stream side)
+            → PointStandsFor m61_modulus other.now.first.seat other.now.first.value
+            (vector depth more side)
+            → PointStandsFor m61_modulus self.new.first.seat self.new.first.value
+            (vector depth (stream ++ more) side) }
+        ensures second_joins { (depth : ℕ) (stream more : List AnyUpdate) (side : AnySide)
+            → PointStandsFor m61_modulus self.old.first.seat (m61_number self.old.second)
+            (vector depth stream side)
+            → PointStandsFor m61_modulus other.now.first.seat (m61_number other.now.second)
+            (vector depth more side)
+            → PointStandsFor m61_modulus self.new.first.seat (m61_number self.new.second)
+            (vector depth (stream ++ more) side) }
+    {
+        self.first.absorb(&other.first);
+        self.second = self.second.plus(other.second);
     }
 
     // Lends the challenges to the other extension.

@@ -124,7 +124,7 @@ fn make_room<K: Sink>(sink: &mut K, gathered: &mut ArrayVec<u8, ROOM>) -> Result
 /// # Errors
 ///
 /// Those of the sink, which a front of the line has then reached that is shorter than it.
-pub(crate) fn write_number<K: Sink>(sink: &mut K, query: &Query, value: i64) -> Result<(), PortStop>
+pub fn write_number<K: Sink>(sink: &mut K, query: &Query, value: i64) -> Result<(), PortStop>
     ensures talk { SendsWhole (K.talk sink.old)
         (K.talk sink.new) result (line query.now (number value)) }
     ensures cause { HasCause K.faults K.wants K.is_sure sink.old sink.new result }
@@ -143,11 +143,7 @@ pub(crate) fn write_number<K: Sink>(sink: &mut K, query: &Query, value: i64) -> 
 /// # Errors
 ///
 /// Those of the sink, which a front of the line has then reached that is shorter than it.
-pub(crate) fn write_pairs<K: Sink>(
-    sink: &mut K,
-    query: &Query,
-    entries: &[Entry],
-) -> Result<(), PortStop>
+pub fn write_pairs<K: Sink>(sink: &mut K, query: &Query, entries: &[Entry]) -> Result<(), PortStop>
     ensures talk { SendsWhole (K.talk sink.old)
         (K.talk sink.new) result (line query.now (pairs entries.now)) }
     ensures cause { HasCause K.faults K.wants K.is_sure sink.old sink.new result }

@@ -3,87 +3,21 @@
 ghost use Rattle.std.specs.Prelude.{◌≡◌, ◌*◌, ◌/◌, ◌<◌, ◌≤◌, ◌^◌, ℕ, List, [], ◌++◌, length, All};
 ghost use Rattle.std.specs.Prelude.{IsTrue, false, nat_abs};
 ghost use Rattle.sip_vector.specs.declared.update.Update.{Update as AnyUpdate};
-ghost use Rattle.sip_vector.specs.declared.query.Query.{Query as AnyQuery};
-ghost use Rattle.sip_verifier.specs.QuerySeats.{HasRoom, StandsFor, concerns, is_seat, keeps};
-ghost use Rattle.sip_verifier.specs.inside.Running.{RunsFor, block_of, numbers_of};
 ghost use Rattle.sip_vector.specs.Answers.{Fits};
-ghost use Rattle.sip_vector.specs.Built.{is_built};
 ghost use Rattle.sip_vector.specs.Limits.{most_depth};
 ghost use Rattle.sip_vector.specs.Streams.{most_weight};
 ghost use Rattle.sip_heavy.specs.Protocol.{count_of};
 ghost use Rattle.sip_subvec.specs.Asking.{most_answer};
-ghost use Rattle.sip_verifier.specs.inside.Judging.{most_nodes, most_places};
-ghost use Rattle.sip_verifier.specs.Widths.{is_wide_seat};
+ghost use Rattle.sip_verifier.specs.QuerySeats.{HasRoom, StandsFor, concerns, is_seat, keeps};
+ghost use Rattle.sip_verifier.specs.Rooms.{most_nodes, most_places};
 ghost use Rattle.sip_verifier.specs.Tasks.{CanBeAsked};
+ghost use Rattle.sip_verifier.specs.Widths.{is_wide_seat};
 
-use crate::points::Points;
+use crate::running::Running;
 use sip_field::{M61, Seat};
-use sip_mle::Point;
 use sip_subvec::MOST_ENTRIES;
-use sip_tree::{AugRoot, Root};
 use sip_vector::{CAP, Query, Side, Update, is_wide, share_of};
 use std::marker::Model;
-
-/// The running numbers of one query, with its challenges.
-#[derive(Drop)]
-pub(crate) enum Running {
-    /// Of a sub-vector: the root of the tree over side 0.
-    Root(Root<M61, CAP>),
-    /// Of a range sum or a second moment: the extension of the side's vector.
-    Point(Point<M61, CAP>),
-    /// Of an inner product: the extensions of both sides' vectors.
-    Points(Points),
-    /// Of heavy hitters: the root of the augmented tree over the side's vector.
-    AugRoot(AugRoot<M61, CAP>),
-}
-
-impl Running {
-    // Those of a query before any update.
-    fn begin(query: &Query, block: Seat<M61, CAP>) -> Running
-        ensures block { block_of result ≡ block }
-        ensures keeps { IsTrue (is_built query.now)
-            → IsTrue (keeps query.now (numbers_of result)) }
-        ensures runs { IsTrue (is_built query.now)
-            → (depth : ℕ) → length block ≡ depth → RunsFor depth [] query.now result }
-    {
-        match query {
-            Query::Sub { .. } => Running::Root(Root::new(block)),
-            Query::Range { .. } | Query::F2 { .. } => Running::Point(Point::new(block)),
-            Query::Inner => Running::Points(Points::new(block)),
-            Query::Heavy { .. } | Query::Share { .. } => Running::AugRoot(AugRoot::new(block)),
-            // It is not built, and so never asked.
-            Query::Above { .. } => Running::AugRoot(AugRoot::new(block)),
-        }
-    }
-
-    // Adds updates of one side, which concern the query.
-    fn update_all(&mut self, side: Side, updates: &[Update])
-        requires shallow { length (block_of self.old) ≤ most_depth }
-        requires items { All (λ u. u.item < 2 ^ length (block_of self.old)) updates.now }
-        requires sides { All (λ u. u.side ≡ side) updates.now }
-        requires room { HasRoom (numbers_of self.old) updates.now }
-        ensures block { block_of self.new ≡ block_of self.old }
-        ensures keeps { (query : AnyQuery) → keeps query (numbers_of self.new)
-            ≡ keeps query (numbers_of self.old) }
-        ensures runs { (depth : ℕ) (stream : List AnyUpdate) (query : AnyQuery)
-            → IsTrue (concerns query side)
-            → RunsFor depth stream query self.old
-            → RunsFor depth (stream ++ updates.now) query self.new }
-    {
-        match self {
-            Running::Root(root) => root.update_all(updates),
-            Running::Point(point) => point.update_all(updates),
-            Running::Points(points) => points.update_all(side, updates),
-            Running::AugRoot(root) => root.update_all(updates),
-        }
-    }
-}
-
-impl Default for Running {
-    fn default() -> Running {
-        Running::Root(Root::default())
-    }
-}
 
 // Whether updates of this side change the running numbers of a query.
 fn concerns(query: &Query, side: Side) -> bool
@@ -122,8 +56,10 @@ fn nodes_of(total: i64, at_least: u64) -> usize
 
 /// A query with its running numbers.
 #[derive(Drop)]
-pub(crate) struct QuerySeat {
+pub struct QuerySeat {
+    /// What is asked.
     pub(crate) query: Query,
+    /// The numbers that the replies are judged by, with their challenges.
     pub(crate) running: Running,
 }
 
@@ -132,7 +68,7 @@ impl Model for QuerySeat {
 
     ghost Value = { Seated };
 
-    ghost use Rattle.sip_verifier.specs.inside.Running.{block_of, numbers_of};
+    ghost use Rattle.sip_verifier.specs.Running.{block_of, numbers_of};
 
     ghost view = { λ s. record {
       query = s.query;
@@ -151,6 +87,19 @@ impl Default for QuerySeat {
 }
 
 impl QuerySeat {
+    ghost use Rattle.sip_verifier.specs.Running.{block_of, numbers_of};
+
+    /// The seat of a query by the running numbers of a stream, which are of the kind that the query
+    /// needs.
+    pub fn of(query: Query, running: Running) -> QuerySeat
+        requires { IsTrue (keeps query (numbers_of running)) }
+        ensures query { result.query ≡ query }
+        ensures block { result.block ≡ block_of running }
+        ensures running { result.running ≡ numbers_of running }
+    {
+        QuerySeat { query, running }
+    }
+
     /// The seat of a query with these challenges, before any update.
     pub(crate) fn begin(query: Query, block: Seat<M61, CAP>) -> QuerySeat
         ensures query { result.query ≡ query }
@@ -162,20 +111,22 @@ impl QuerySeat {
         QuerySeat { query, running }
     }
 
+    /// What is asked.
+    pub fn query(&self) -> Query
+        ensures { result ≡ self.now.query }
+    {
+        self.query
+    }
+
     /// The challenges.
-    pub(crate) fn block(&self) -> &Seat<M61, CAP>
+    pub fn block(&self) -> &Seat<M61, CAP>
         ensures { result.now ≡ self.now.block }
     {
-        match &self.running {
-            Running::Root(root) => &root.seat,
-            Running::Point(point) => &point.seat,
-            Running::Points(points) => &points.first.seat,
-            Running::AugRoot(root) => &root.seat,
-        }
+        self.running.block()
     }
 
     /// How many nodes a level of the replies may have, where the query is for heavy hitters.
-    pub(crate) fn most_nodes(&self) -> usize
+    pub fn most_nodes(&self) -> usize
         requires fits { (depth : ℕ) × Fits depth self.now.query }
         ensures { result ≡ most_nodes self.now.query self.now.running }
     {
@@ -191,10 +142,10 @@ impl QuerySeat {
         }
     }
 
-    /// How many places the pairs of an answer need, at most.
-    pub(crate) fn most_places(&self) -> usize
+    /// How many places the pairs of an answer need.
+    pub fn most_places(&self) -> usize
         requires fits { (depth : ℕ) × Fits depth self.now.query }
-        ensures { most_places self.now.query self.now.running ≤ result }
+        ensures { result ≡ most_places self.now.query self.now.running }
     {
         match &self.query {
             Query::Sub { lo, hi } => most_pairs(*lo, *hi),
@@ -203,7 +154,7 @@ impl QuerySeat {
     }
 
     /// Whether the answer may be too wide.
-    pub(crate) fn is_wide(&self) -> bool
+    pub fn is_wide(&self) -> bool
         requires fits { (depth : ℕ) × Fits depth self.now.query }
         ensures { result ≡ is_wide_seat self.now.query self.now.running }
     {

@@ -1,24 +1,28 @@
 //! The query of a seat, asked of the helper by the check of its kind.
 
-ghost use Rattle.std.specs.Prelude.{◌≡◌, ◌≤◌, ◌*◌, ◌/◌, IsSomeAnd, ℕ, List, Some, length, take};
-ghost use Rattle.std.specs.Prelude.{IsTrue};
+ghost use Rattle.std.specs.Prelude.{◌≡◌, ◌≢◌, ◌≤◌, ◌*◌, ◌/◌, IsSomeAnd, ℕ, List, [], Ok, Some, length};
+ghost use Rattle.std.specs.Prelude.{IsTrue, take, vec_capacity};
 ghost use Rattle.sip_field.specs.Elements.{m61_number};
 ghost use Rattle.sip_field.specs.Moduli.{m61_modulus};
 ghost use Rattle.sip_ports.specs.Ports.{Lasts};
 ghost use Rattle.sip_vector.specs.declared.update.Update.{Update as AnyUpdate};
+ghost use Rattle.sip_vector.specs.Streams.{IsLegal};
 ghost use Rattle.sip_sums.specs.AcceptsSum.{product_at};
 ghost use Rattle.sip_sums.specs.Questions.{Lists, lists_of};
 ghost use Rattle.sip_wire.specs.Versions.{Speaks};
 ghost use Rattle.sip_verifier.specs.AskClause.{AskClause, came_of};
-ghost use Rattle.sip_verifier.specs.Asking.{Asks};
-ghost use Rattle.sip_verifier.specs.inside.Judging.{found_in, most_nodes, most_places, verdict_of};
+ghost use Rattle.sip_verifier.specs.Asking.{AnswersCount, Asks};
+ghost use Rattle.sip_verifier.specs.inside.Judging.{found_in, verdict_of};
+ghost use Rattle.sip_verifier.specs.ReplyBound.{ReplyBound};
+ghost use Rattle.sip_verifier.specs.Rooms.{most_nodes, most_places};
 ghost use Rattle.sip_verifier.specs.inside.Protocols.{IsProtocol};
 ghost use Rattle.sip_heavy.specs.Protocol.{count_of, heavy_asked, heavy_protocol};
 ghost use Rattle.std.specs.Option.{option_map};
 ghost use Rattle.sip_verifier.specs.QuerySeats.{StandsFor, is_seat};
 ghost use Rattle.sip_verifier.specs.Snapshots.{sink};
 
-use crate::seat::{QuerySeat, Running};
+use crate::running::Running;
+use crate::seat::QuerySeat;
 use crate::session::{SessionFault, Verdict};
 use sip_field::{Field, M61};
 use sip_heavy::{HeavyAsking, HeavySpace};
@@ -31,10 +35,65 @@ use sip_tree::AugRoot;
 use sip_vector::{CAP, Entry, Query, share_of};
 use sip_wire::{Frame, Version};
 
+/// Asks the query of a seat, takes the replies and judges them, as
+/// [`Session::ask`](crate::Session::ask) does for a query of a session. After [`Verdict::Pairs`]
+/// the pairs of the answer are in `entries`, rising, and after any other answer none are.
+///
+/// The depth is the number of the seat's challenges. No memory is taken: `entries` has room for the
+/// places that the seat says, and `space` for its nodes, and both keep it. The time is linear in
+/// the replies and in that room. A seat is asked once: the other end knows all but one of its
+/// challenges from then on.
+///
+/// # Errors
+///
+/// As of [`Session::ask`](crate::Session::ask). `PeerFault`: a reply is then missing or not whole,
+/// and those before it have no fault. `KeepFault`: what came of the last reply was not judged.
+/// `OutOfMemory` is the one or the other. Each comes only where that port's own count of them rose.
+pub fn ask_seat<L: Link, C: Sink>(
+    version: Version,
+    seat: &QuerySeat,
+    link: &mut L,
+    keep: &mut C,
+    frame: &mut Frame,
+    entries: &mut Vec<Entry>,
+    space: &mut Option<HeavySpace>,
+) -> Result<Verdict, SessionFault>
+    requires seat { IsTrue (is_seat (length seat.now.block) seat.now) }
+    requires speaks { Speaks version (length seat.now.block) seat.now.query }
+    requires room { most_places seat.now.query seat.now.running ≤ vec_capacity entries.old }
+    requires space { IsSomeAnd space.old
+        (λ s. most_nodes seat.now.query seat.now.running ≤ s.nodes) }
+    ensures asks { (depth : ℕ) (stream : List AnyUpdate) → StandsFor depth stream seat.now
+        → Asks version depth stream seat.now.query seat.now.block (L.talk link.old)
+        (L.talk link.new) entries.new.items result }
+    ensures count { (depth : ℕ) (stream : List AnyUpdate) → StandsFor depth stream seat.now
+        → IsLegal depth stream
+        → AnswersCount version depth stream seat.now.query seat.now.block (L.talk link.old)
+        (L.talk link.new) entries.new.items result }
+    ensures bound { (depth : ℕ) (stream : List AnyUpdate) → StandsFor depth stream seat.now
+        → ReplyBound version depth stream seat.now.query (L.talk link.old) (L.talk link.new) }
+    ensures cleared { result ≢ Ok Verdict.Pairs → entries.new.items ≡ [] }
+    ensures room { vec_capacity entries.old ≤ vec_capacity entries.new }
+    ensures space { option_map (λ s. s.nodes) space.new ≡ option_map (λ s. s.nodes) space.old }
+    ensures keeps { AskClause version
+        (sink L.talk L.faults L.wants link.old) (sink L.talk L.faults L.wants link.new)
+        (sink C.talk C.faults C.wants keep.old) (sink C.talk C.faults C.wants keep.new)
+        (came_of result) }
+    ensures link { Lasts L.faults L.wants L.is_sure link.old link.new }
+    ensures keep { Lasts C.faults C.wants C.is_sure keep.old keep.new }
+{
+    let Ok(()) = entries.resize(seat.most_places(), Entry { index: 0, value: 0 }) else {
+        unreachable!()
+    };
+    let asked = ask_by_kind(version, seat, entries, frame, space, link, keep);
+    entries.truncate(found_in(entries.len(), &asked));
+    verdict_of(asked)
+}
+
 /// Asks the query of a seat, takes the replies and checks them. The pairs of an answer are written
 /// to the front of `entries`, and what comes of the replies to `keep`.
 #[inline(never)]
-pub(crate) fn ask_seat<L: Link, C: Sink>(
+pub(crate) fn ask_by_kind<L: Link, C: Sink>(
     version: Version,
     seat: &QuerySeat,
     entries: &mut [Entry],

@@ -7,7 +7,8 @@ ghost use Rattle.sip_verifier.specs.SeatNumbers.{has_root_at, point_side, point_
 ghost use Rattle.sip_verifier.specs.SeatNumbers.{queries_of};
 
 use crate::Seats;
-use crate::seat::{QuerySeat, Running};
+use crate::running::Running;
+use crate::seat::QuerySeat;
 use sip_field::M61;
 use sip_mle::Point;
 use sip_tree::Root;

@@ -12,11 +12,11 @@ ghost use Rattle.sip_vector.specs.Streams.{IsLegal};
 ghost use Rattle.sip_wire.specs.Versions.{Speaks, deepest, speaks};
 ghost use Rattle.sip_verifier.specs.AskClause.{AskClause, came_of};
 ghost use Rattle.sip_verifier.specs.Asking.{AnswersCount, Asks};
-ghost use Rattle.sip_verifier.specs.inside.Judging.{are_enough, lends_enough, most_nodes};
-ghost use Rattle.sip_verifier.specs.inside.Judging.{most_places};
+ghost use Rattle.sip_verifier.specs.inside.Judging.{are_enough, lends_enough};
 ghost use Rattle.sip_verifier.specs.NextSeat.{IsNext};
 ghost use Rattle.sip_verifier.specs.QuerySeats.{Seated, is_seat};
 ghost use Rattle.sip_verifier.specs.ReplyBound.{ReplyBound};
+ghost use Rattle.sip_verifier.specs.Rooms.{most_nodes, most_places};
 ghost use Rattle.sip_verifier.specs.Snapshots.{sink};
 ghost use Rattle.sip_verifier.specs.Widths.{first_wide_seat};
 ghost use Rattle.sip_wire.specs.Table.{most_queries};
@@ -24,7 +24,7 @@ ghost use Rattle.sip_verifier.specs.Sittings.{Starts};
 
 use crate::Seats;
 use crate::seat::QuerySeat;
-use crate::seat_asking::{ask_seat, found_in, verdict_of};
+use crate::seat_asking::{ask_by_kind, found_in, verdict_of};
 use sip_heavy::HeavySpace;
 use sip_ports::{Link, Sink};
 use sip_vector::{Entry, Query};
@@ -264,7 +264,7 @@ impl Session {
     {
         let seats = self.seats.all();
         let seat = &seats[self.asked];
-        let asked = ask_seat(
+        let asked = ask_by_kind(
             self.version,
             seat,
             &mut self.entries,

@@ -1,6 +1,5 @@
 -- The steps keep it all; where they stop, why is left in place of the seats.
 use Rattle.std.proofs.Common.{◌≡◌, ◌∙◌, ap, sym, subst, Err}
-use Rattle.sip_verifier.specs.declared.weights.Weights.{Weights}
 use Rattle.sip_verifier.specs.GatherClause.{GatherClause}
 use Rattle.sip_verifier.specs.Weights.{none}
 use Rattle.sip_verifier.proofs.gathering.gather.Goals as goal

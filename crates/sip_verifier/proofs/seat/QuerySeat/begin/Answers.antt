@@ -1,7 +1,7 @@
 -- The running numbers of no update stand for the stream of none.
 use Rattle.std.proofs.Common.{length, ap, ◌∙◌}
 use Rattle.sip_verifier.specs.QuerySeats.{Seated}
-use Rattle.sip_verifier.specs.inside.Running.{block_of, numbers_of}
+use Rattle.sip_verifier.specs.Running.{block_of, numbers_of}
 use Rattle.sip_verifier.proofs.SeatsGiven.{asked-can}
 use Rattle.sip_verifier.proofs.Seating.{seat_from}
 use Rattle.sip_verifier.proofs.seat.QuerySeat.begin.Goals as goal

@@ -12,4 +12,4 @@ returns-clause-fits g c = λ seat more is.
 
 pub returns-clause-keeps : goal.returns-clause-keeps
 returns-clause-keeps g c =
-    rw (← c.self.view_is) (rw c.verdict_of-verdict.ensures c.ask_seat-asked.ensures.keeps)
+    rw (← c.self.view_is) (rw c.verdict_of-verdict.ensures c.ask_by_kind-asked.ensures.keeps)

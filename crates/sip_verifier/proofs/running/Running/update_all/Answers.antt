@@ -1,9 +1,9 @@
 -- Updates that concern the query raise its running numbers.
 use Rattle.std.proofs.Common.{subst}
-use Rattle.sip_verifier.specs.declared.seat.Running.{Running}
-use Rattle.sip_verifier.specs.inside.Running.{RunsFor}
+use Rattle.sip_verifier.specs.declared.running.Running.{Running}
+use Rattle.sip_verifier.specs.Running.{RunsFor}
 use Rattle.sip_verifier.proofs.Seating.{root_further, point_further, points_further, aug_root_further}
-use Rattle.sip_verifier.proofs.seat.Running.update_all.Goals as goal
+use Rattle.sip_verifier.proofs.running.Running.update_all.Goals as goal
 
 pub returns-in-Root-clause-runs : goal.returns-in-Root-clause-runs
 returns-in-Root-clause-runs c = λ depth stream query concerned stands.

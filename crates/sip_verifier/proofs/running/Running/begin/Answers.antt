@@ -3,7 +3,7 @@ use Rattle.std.proofs.Common.{◌∙◌, IsTrue, length, sym, ap, rules}
 use Rattle.sip_field.specs.Elements.{m61_number}
 use Rattle.sip_verifier.specs.QuerySeats.{keeps, root_is, point_is, points_are, aug_root_is}
 use Rattle.sip_verifier.proofs.SeatsGiven.{new_root, new_point, new_points, new_aug_root}
-use Rattle.sip_verifier.proofs.seat.Running.begin.Goals as goal
+use Rattle.sip_verifier.proofs.running.Running.begin.Goals as goal
 
 pub returns-in-Sub-clause-runs : goal.returns-in-Sub-clause-runs
 returns-in-Sub-clause-runs c = λ built depth size.
