@@ -68,7 +68,7 @@ module _ (version : Version) (depth : ℕ) (stream : List Update) (some : 1 ≤ 
           small = moment_fits depth stream t.query legal can.0;
         }) t.block can.1.size can.1.below
 
-    accepted : (written : ℤ) (b a : List ℕ) → CanBeJudged (t.query, t.block)
+    pub accepted : (written : ℤ) (b a : List ℕ) → CanBeJudged (t.query, t.block)
         → (asking version depth stream).Accepts t written
         → honest_bytes version depth stream (t.query, t.block) ++ b ≡ joined t.replies ++ a
         → (b ≡ a) × (written ≡ answer depth stream t.query)
@@ -77,7 +77,7 @@ module _ (version : Version) (depth : ℕ) (stream : List Update) (some : 1 ≤ 
         (own can) t.replies b a agree (number written) accepts in
         (both.0, same_number written (answer depth stream t.query) both.1)
 
-    faulty : (fault : Fault) (b a : List ℕ) → CanBeJudged (t.query, t.block)
+    pub faulty : (fault : Fault) (b a : List ℕ) → CanBeJudged (t.query, t.block)
         → (asking version depth stream).IsFaulty t fault → fault.reason ≢ reasons.Closed
         → honest_bytes version depth stream (t.query, t.block) ++ b ≡ joined t.replies ++ a → ⊥
     faulty fault b a can is other agree =

@@ -1,33 +1,17 @@
 //! The moments of a run, asked one after another.
 
-ghost use Rattle.std.specs.Prelude.{◌≡◌, ◌≢◌, ◌⊎◌, ◌%◌, ◌^◌, ◌≤◌, ℕ, List, map, length, All, Ok};
-ghost use Rattle.std.specs.Prelude.{Err};
-ghost use Rattle.sip_field.specs.Elements.{m61_number};
-ghost use Rattle.sip_field.specs.Moduli.{m61_modulus};
-ghost use Rattle.sip_ports.specs.Ports.{Lasts, Rose};
-ghost use Rattle.sip_vector.specs.declared.update.Update.{Update as AnyUpdate};
-ghost use Rattle.sip_verifier.specs.runs.Askers.{Asks, KeepsAsked};
-ghost use Rattle.sip_moments.specs.AcceptsMoment.{power_at};
-ghost use Rattle.sip_moments.specs.Manner.{asking, line, numbers_of};
+ghost use Rattle.std.specs.Prelude.{◌≡◌, ◌≤◌, map, length, All};
 ghost use Rattle.sip_moments.specs.Moments.{IsDegree};
-ghost use Rattle.sip_moments.specs.Sittings.{square_of, verdict_of};
+ghost use Rattle.sip_moments.specs.Sittings.{square_of};
 
+use crate::answer::write_moment;
+use crate::asking::ask_moment;
 use crate::moment::Moment;
-use crate::moment_asking::MomentAsking;
 use arrayvec::ArrayVec;
-use itoa::Buffer;
-use sip_field::{M61, Seat};
-use sip_ports::{Link, PortStop, Sink, write_whole};
-use sip_replies::{AskStop, Said, ask};
-use sip_stream::text::{put, put_number};
-use sip_vector::{CAP, Side};
-use sip_verifier::{Asker, Seats, SessionFault, Unanswered, has_failed};
+use sip_ports::{Link, PortStop, Sink};
+use sip_verifier::{Asker, Seats, Unanswered, has_failed};
 use sip_wire::{Frame, MOST_QUERIES, Message, Version, encode};
 use std::marker::Model;
-
-/// The most bytes of a line: its word has 10, and a number at most 20, with a space and a line
-/// feed.
-const ROOM: usize = 64;
 
 /// A moment that was stated and accepted.
 #[derive(Clone, Copy, Debug)]
@@ -99,70 +83,6 @@ impl Questions {
     }
 }
 
-// The line of an accepted moment.
-fn line_of(given: &MomentGiven) -> ArrayVec<u8, ROOM>
-    ensures { result.items ≡ line given.now.moment given.now.value }
-{
-    let mut digits = Buffer::new();
-    let mut gathered = ArrayVec::new();
-    put(&mut gathered, b"moment:");
-    match given.moment.side {
-        Side::First => put(&mut gathered, b"0:"),
-        Side::Second => put(&mut gathered, b"1:"),
-    }
-    put_number(&mut gathered, given.moment.degree as u64);
-    put(&mut gathered, b" ");
-    put(&mut gathered, digits.format(given.value).as_bytes());
-    put(&mut gathered, b"\n");
-    gathered
-}
-
-// What came of a question for a moment: it is answered by a number.
-fn verdict_of(asked: Result<Said, AskStop>) -> Result<i64, Unanswered>
-    requires { (found : ℕ) → asked ≢ Ok (Said.Pairs found) }
-    ensures { result ≡ verdict_of asked }
-{
-    match asked {
-        Ok(Said::Number(value)) => Ok(value),
-        Ok(Said::Pairs(_)) => unreachable!(),
-        Err(stop) => Err(Unanswered::from(stop)),
-    }
-}
-
-// Asks a moment, takes the replies and judges them. `extension` is that of the moment's side at
-// these challenges.
-#[inline(never)]
-fn ask_moment<L: Link, C: Sink>(
-    version: Version,
-    moment: Moment,
-    seat: &Seat<M61, CAP>,
-    extension: M61,
-    frame: &mut Frame,
-    link: &mut L,
-    keep: &mut C,
-) -> Result<i64, Unanswered>
-    requires { IsDegree moment.degree }
-    ensures asks { (depth : ℕ) (stream : List AnyUpdate)
-        → (m61_number extension ^ moment.degree) % m61_modulus
-        ≡ power_at m61_modulus moment.degree (numbers_of depth stream moment) seat.now
-        → Asks (asking version depth stream) (moment, seat.now) (L.talk link.old) (L.talk link.new)
-        (λ value stated. value ≡ stated) result }
-    ensures kept { KeepsAsked (L.talk link.old) (L.talk link.new) (C.talk keep.old)
-        (C.talk keep.new) version result }
-    ensures cause { result ≡ Err (Unanswered.Fault SessionFault.PeerFault)
-        → Rose (L.faults link.old) (L.faults link.new) }
-    ensures keep_cause { result ≡ Err (Unanswered.Fault SessionFault.KeepFault)
-        → Rose (C.faults keep.old) (C.faults keep.new) }
-    ensures memory { result ≡ Err (Unanswered.Fault SessionFault.OutOfMemory)
-        → Rose (L.wants link.old) (L.wants link.new) ⊎ Rose (C.wants keep.old) (C.wants keep.new) }
-    ensures link { Lasts L.faults L.wants L.is_sure link.old link.new }
-    ensures keep { Lasts C.faults C.wants C.is_sure keep.old keep.new }
-{
-    let mut check = MomentAsking::start(moment.degree, seat, extension);
-    let asked = ask(&mut check, version, &moment, &mut [], frame, link, keep);
-    verdict_of(asked)
-}
-
 impl Asker for Questions {
     ghost use Rattle.std.specs.Prelude.{ℤ};
     ghost use Rattle.sip_moments.specs.declared.moment.Moment.{Moment as AnyMoment};
@@ -220,7 +140,7 @@ impl Asker for Questions {
     }
 
     fn write_line<K: Sink>(&self, given: &MomentGiven, report: &mut K) -> Result<(), PortStop> {
-        write_whole(report, line_of(given).as_slice())
+        write_moment(report, given.moment, given.value)
     }
 
     #[inline(never)]

@@ -83,7 +83,9 @@
 //! Of a pair with a 0 the odd entry wants none of these, and the even one k.
 #![tactic(auto)]
 
+mod answer;
 mod asker;
+mod asking;
 mod check;
 mod claims;
 pub mod counting;
@@ -102,11 +104,14 @@ mod serving;
 mod stream;
 mod task;
 
+pub use answer::write_moment;
 pub use asker::MomentGiven;
+pub use asking::ask_moment;
 pub use check::MomentCheck;
 pub use moment::{LEAST_DEGREE, Moment};
 pub use moment_asking::MomentAsking;
 pub use prover::MomentProver;
+pub use room::is_too_high;
 pub use serving::serve_moments;
 pub use stream::moment_stream;
 pub use task::MomentTask;

@@ -7,7 +7,7 @@ ghost use Rattle.sip_moments.specs.Moments.{is_too_high};
 const MOST_CLAIM: u64 = (1 << 60) - 1;
 
 /// Whether a claim may have no room for the moment of this degree of a side of this weight.
-pub(crate) fn is_too_high(weight: u64, degree: u8) -> bool
+pub fn is_too_high(weight: u64, degree: u8) -> bool
     ensures { result ≡ is_too_high weight degree }
 {
     match weight.checked_pow(u32::from(degree)) {

@@ -2,7 +2,7 @@
 use Rattle.std.proofs.Common.{inl, inr, refl, sym, ◌∙◌, arith}
 use Rattle.sip_moments.proofs.AskFrames.{ask_fits}
 use Rattle.sip_moments.proofs.MomentAsked.{asks_so, keep_only, keeps_so, memory_only, no_pairs, peer_only}
-use Rattle.sip_moments.proofs.asker.ask_moment.Goals as goal
+use Rattle.sip_moments.proofs.asking.ask_moment.Goals as goal
 
 pub ask-asked-requires-clause-fits : goal.ask-asked-requires-clause-fits
 ask-asked-requires-clause-fits g c =
