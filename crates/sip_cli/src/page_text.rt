@@ -319,7 +319,7 @@ A run that does not end well says so in one line on standard error. A second
 line, which begins with sip: hint:, may say what can be done. Words and records
 are counted from 0: word 0 is the command, and record N of a text is line N + 1.
 A reply that is rejected has its line among the answers: rejected query K round
-J REASON, with K counted from 1.
+J REASON, with K counted from 1. REASONS say what a reason means.
 
   sip: usage at word N
       Word N cannot stand there or is missing. The words before it are the
@@ -387,6 +387,45 @@ J REASON, with K counted from 1.
   sip: out of memory
       Memory ran out. A helper keeps each item that is not 0, and sip verify an
       answer while it is told.
+
+REASONS
+
+A rejection names the first fault of the helper's replies. An honest helper that
+heard all of STREAM, and whose talk was not cut off, is rejected as Refused(1),
+Refused(2) or Refused(3) alone. A helper that lies may refuse too: a refusal
+says nothing about the answer.
+
+  Refused(1)    The helper says that its memory ran out, as it may where it is
+                honest: it keeps the stream.
+  Refused(2)    It says that the answer may have more entries than LIMITS say.
+                It does where it is honest: ask for less at once.
+  Refused(3)    It says that an entry of the side is below 0. It does where it
+                is honest: heavy and share have no answer there.
+  Refused(4)    It says that a message is out of turn. An honest helper that is
+                meant for these questions never does.
+  Closed        The link ended inside the reply: the helper ended or was cut
+                off, or it is meant for other questions.
+  BadKind       A message came that may not stand there.
+  BadLength     The length of a message is none that may stand there.
+  BadCount      The count, the code or the flags of a message do not fit its
+                length.
+  BadNumber     A number is outside the range of its field.
+  BadOrder      Entries or nodes do not rise, are outside of what was asked for,
+                or were known before.
+  TooMany       There are more entries or nodes than an answer may have.
+  BadFlags      Other siblings came than those that LO and HI ask for.
+  HeavySibling  A node that was told above the entries counts T or more.
+  Pairs         A node has no sibling, or there is no node at all.
+  LightParent   Two siblings together count less than T.
+  Total         Two siblings together count more than the total of the side, or
+                the last node counts something else.
+  Sum           The values of a polynomial at 0 and 1 do not add up to what is
+                due.
+  BadFound      The place that the helper names cannot answer the lookup.
+  NotAlone      From I to that place there are other entries than the one there,
+                or there are some where it named none.
+  Root          At the end the replies do not come to the number that sip kept
+                of the stream: the helper heard another one, or it lies.
 
 STATUS
 

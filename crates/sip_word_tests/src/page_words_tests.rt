@@ -79,7 +79,8 @@ fn check_asked(rt: &impl Abort, alloc: Global, rows: &[Asked]) -> Result<(), Fai
     Ok(())
 }
 
-// The page has each part, each line of a status, each why of a bad record and each limit.
+// The page has each part, each line of a status, each why of a bad record, each limit and each
+// reason of a rejection.
 const SAID: &[&str] = &[
     VERIFY_PART,
     PLAY_PART,
@@ -122,6 +123,27 @@ const SAID: &[&str] = &[
     "record N of a text is line N + 1",
     "1073741823",
     "1048575",
+    "\nREASONS\n",
+    "\n  Refused(1) ",
+    "\n  Refused(2) ",
+    "\n  Refused(3) ",
+    "\n  Refused(4) ",
+    "\n  Closed ",
+    "\n  BadKind ",
+    "\n  BadLength ",
+    "\n  BadCount ",
+    "\n  BadNumber ",
+    "\n  BadOrder ",
+    "\n  TooMany ",
+    "\n  BadFlags ",
+    "\n  HeavySibling ",
+    "\n  Pairs ",
+    "\n  LightParent ",
+    "\n  Total ",
+    "\n  Sum ",
+    "\n  BadFound ",
+    "\n  NotAlone ",
+    "\n  Root ",
 ];
 
 fn check_said(rt: &impl Abort, said: &[&str]) {
