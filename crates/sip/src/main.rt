@@ -3,8 +3,8 @@
 
 use sip_cli::{
     FileId, LinkOrder, OPENING_FROM, OPENING_TO, Opening, PlanFiles, PortPlan, ToldLink,
-    ToldSource, Words, finish, page_of, panel_words, play_words, ports, run, status_without_words,
-    write_page,
+    ToldSource, Words, finish, page_of, page_without_file, panel_words, play_words, ports, run,
+    status_without_words, write_page,
 };
 use sip_ports::{
     FileLink, FileSink, FileSource, NullSink, Sink, Source, StderrSink, StdoutSink, write_whole,
@@ -240,9 +240,23 @@ fn obey(rt: &HostRuntime, words: &Words, tells: bool) -> Option<Status> {
     }
 }
 
+/// The text that the words ask for in place of what else they may say. Where they are a command
+/// too, that is where nothing has the name of its file.
+fn page(rt: &HostRuntime, words: &Words) -> Option<&'static str> {
+    if let Some(text) = page_of(words) {
+        return Some(text);
+    }
+    let text = page_without_file(words)?;
+    let name = ports(words).second.name(words)?;
+    match fs::metadata(rt, name) {
+        Err(error) if error.kind() == io::ErrorKind::NotFound => Some(text),
+        _ => None,
+    }
+}
+
 /// The status of the words: that of the page that they ask for, or of what they say.
 fn done(rt: &HostRuntime, words: &Words, tells: bool) -> Status {
-    match page_of(words) {
+    match page(rt, words) {
         Some(text) => write_page(text, &mut StdoutSink::new(io::writer(rt))),
         None => obey(rt, words, tells).unwrap_or(Status::OutOfMemory),
     }
