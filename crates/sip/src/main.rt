@@ -2,9 +2,9 @@
 #![tactic(auto)]
 
 use sip_cli::{
-    FileId, LinkOrder, OPENING_FROM, OPENING_TO, Opening, PlanFiles, PortPlan, ToldLink,
-    ToldSource, Words, finish, page_of, page_without_file, panel_words, play_words, ports, run,
-    status_without_words, write_page,
+    FileId, LinkOrder, Noted, OPENING_FROM, OPENING_TO, Opening, PlanFiles, PortPlan, SeedLook,
+    ToldLink, ToldSource, Trouble, Unopened, Words, finish, has_seed, page_of, page_without_file,
+    panel_words, play_words, ports, run, status_without_words, write_page,
 };
 use sip_ports::{
     FileLink, FileSink, FileSource, NullSink, Sink, Source, StderrSink, StdoutSink, write_whole,
@@ -12,8 +12,8 @@ use sip_ports::{
 use sip_stream::MadeSource;
 use sip_verifier::Status;
 use std::fs::{self, File};
-use std::io::Stderr;
-use std::os::unix::fs::MetadataExt;
+use std::io::{Read, Stderr};
+use std::os::unix::fs::{MetadataExt, PermissionsExt};
 use std::process::ExitCode;
 use std::{env, io};
 
@@ -59,14 +59,51 @@ fn sparing(rt: &HostRuntime, words: &Words, plan: &PortPlan) -> PortPlan {
     })
 }
 
-/// A file to read.
-fn opened(rt: &HostRuntime, words: &Words, opening: Opening) -> Option<File> {
-    File::open(rt, opening.name(words)?).ok()
+/// The file that an opening gave, or why there is none, which is noted.
+fn noting(file: io::Result<File>, opening: Opening, note: &mut Option<Unopened>) -> Option<File> {
+    match file {
+        Ok(file) => Some(file),
+        Err(error) => {
+            *note = Unopened::of(opening, Trouble::of(&error));
+            None
+        }
+    }
+}
+
+/// A file to read. A directory can be opened, but not read.
+fn opened(
+    rt: &HostRuntime,
+    words: &Words,
+    opening: Opening,
+    note: &mut Option<Unopened>,
+) -> Option<File> {
+    let name = opening.name(words)?;
+    let file = noting(File::open(rt, name), opening, note)?;
+    if file.metadata().is_ok_and(|told| told.is_dir()) {
+        *note = Unopened::of(opening, Trouble::Directory);
+    }
+    Some(file)
+}
+
+/// What the file of a seed is like, if it is a regular one, which is opened once more for a look.
+fn seed_look(rt: &HostRuntime, words: &Words, opening: Opening) -> Option<SeedLook> {
+    regular(rt, words, opening)?;
+    let mut file = File::open(rt, opening.name(words)?).ok()?;
+    let mode = file.metadata().ok()?.permissions().mode();
+    let mut front = [0; 32];
+    let count = file.read(&mut front).ok()?;
+    Some(SeedLook::of(&front[..count], mode))
 }
 
 /// A file to write, which is made or emptied.
-fn emptied(rt: &HostRuntime, words: &Words, opening: Opening) -> Option<File> {
-    File::create(rt, opening.name(words)?).ok()
+fn emptied(
+    rt: &HostRuntime,
+    words: &Words,
+    opening: Opening,
+    note: &mut Option<Unopened>,
+) -> Option<File> {
+    let name = opening.name(words)?;
+    noting(File::create(rt, name), opening, note)
 }
 
 /// Where the lines of `--progress` go.
@@ -97,9 +134,10 @@ fn stream(
     rt: &HostRuntime,
     words: &Words,
     opening: Opening,
+    noted: &mut Noted,
     tells: bool,
 ) -> Option<Box<ToldSource<FileSource, Lines>>> {
-    let file = FileSource::new(opened(rt, words, opening));
+    let file = FileSource::new(opened(rt, words, opening, &mut noted.first));
     Box::new(rt.alloc(), ToldSource::new(words, file, lines(rt, tells))).ok()
 }
 
@@ -119,8 +157,13 @@ fn made(
 /// What reads through a buffer stands on the heap, and is made in a call of its own, so that the
 /// stack has the buffer no longer than that.
 #[inline(never)]
-fn source(rt: &HostRuntime, words: &Words, opening: Opening) -> Option<Box<FileSource>> {
-    let file = opened(rt, words, opening);
+fn source(
+    rt: &HostRuntime,
+    words: &Words,
+    opening: Opening,
+    noted: &mut Noted,
+) -> Option<Box<FileSource>> {
+    let file = opened(rt, words, opening, &mut noted.second);
     Box::new(rt.alloc(), FileSource::new(file)).ok()
 }
 
@@ -130,19 +173,25 @@ type Peer = ToldLink<FileLink, Lines>;
 /// Opens the two ends of the link, in the order of the plan: so two FIFOs can stand between the two
 /// sides. `None` where memory is refused.
 #[inline(never)]
-fn link(rt: &HostRuntime, words: &Words, plan: &PortPlan, tells: bool) -> Option<Box<Peer>> {
+fn link(
+    rt: &HostRuntime,
+    words: &Words,
+    plan: &PortPlan,
+    noted: &mut Noted,
+    tells: bool,
+) -> Option<Box<Peer>> {
     let (from, to) = match plan.link_order() {
         LinkOrder::ToFirst => {
             say(rt, plan.to, OPENING_TO, tells);
-            let to = emptied(rt, words, plan.to);
+            let to = emptied(rt, words, plan.to, &mut noted.to);
             say(rt, plan.from, OPENING_FROM, tells);
-            (opened(rt, words, plan.from), to)
+            (opened(rt, words, plan.from, &mut noted.from), to)
         }
         LinkOrder::FromFirst => {
             say(rt, plan.from, OPENING_FROM, tells);
-            let from = opened(rt, words, plan.from);
+            let from = opened(rt, words, plan.from, &mut noted.from);
             say(rt, plan.to, OPENING_TO, tells);
-            (from, emptied(rt, words, plan.to))
+            (from, emptied(rt, words, plan.to, &mut noted.to))
         }
     };
     let link = FileLink::new(from, to);
@@ -151,8 +200,13 @@ fn link(rt: &HostRuntime, words: &Words, plan: &PortPlan, tells: bool) -> Option
 
 /// The file that keeps the transcript, which is made or emptied; `None` where memory is refused.
 #[inline(never)]
-fn record(rt: &HostRuntime, words: &Words, opening: Opening) -> Option<Box<FileSink>> {
-    let file = emptied(rt, words, opening);
+fn record(
+    rt: &HostRuntime,
+    words: &Words,
+    opening: Opening,
+    noted: &mut Noted,
+) -> Option<Box<FileSink>> {
+    let file = emptied(rt, words, opening, &mut noted.keep);
     Box::new(rt.alloc(), FileSink::new(file)).ok()
 }
 
@@ -200,16 +254,20 @@ fn obey_over<S: Source>(
     words: &Words,
     plan: &PortPlan,
     first: &mut S,
+    noted: &mut Noted,
     tells: bool,
 ) -> Option<Status> {
-    let second = source(rt, words, plan.second)?;
-    let peer = link(rt, words, plan, tells)?;
+    let second = source(rt, words, plan.second, noted)?;
+    let peer = link(rt, words, plan, noted, tells)?;
     let mut held = RunPorts { second, peer };
     // Where neither TO nor RECORD was there, they may be one file now.
     let keep = sparing(rt, words, plan).keep;
+    if keep != plan.keep {
+        noted.keep = Unopened::taken(plan.keep, keep);
+    }
     Some(match keep {
         Opening::Path { .. } | Opening::Spared => {
-            let mut keep = record(rt, words, keep)?;
+            let mut keep = record(rt, words, keep, noted)?;
             obey_keeping(rt, words, first, &mut held, &mut *keep)
         }
         Opening::Nothing | Opening::Made { .. } => {
@@ -218,11 +276,16 @@ fn obey_over<S: Source>(
     })
 }
 
-/// Does what the words say, over the file or the made stream that is the first source. `None` where
-/// memory is refused to a port.
-fn obey(rt: &HostRuntime, words: &Words, tells: bool) -> Option<Status> {
+/// Does what the words say, over the file or the made stream that is the first source, and notes
+/// which files are not to be had. `None` where memory is refused to a port.
+fn obey(rt: &HostRuntime, words: &Words, noted: &mut Noted, tells: bool) -> Option<Status> {
     let asked = ports(words);
     let plan = sparing(rt, words, &asked);
+    noted.to = Unopened::taken(asked.to, plan.to);
+    noted.keep = Unopened::taken(asked.keep, plan.keep);
+    if has_seed(words) {
+        noted.seed = seed_look(rt, words, plan.second).unwrap_or_default();
+    }
     match &asked.first {
         Opening::Made {
             number,
@@ -231,11 +294,11 @@ fn obey(rt: &HostRuntime, words: &Words, tells: bool) -> Option<Status> {
         } => {
             let source = MadeSource::new(*number, *count, *depth);
             let mut first = made(rt, words, source, tells)?;
-            obey_over(rt, words, &plan, &mut *first, tells)
+            obey_over(rt, words, &plan, &mut *first, noted, tells)
         }
         Opening::Nothing | Opening::Spared | Opening::Path { .. } => {
-            let mut first = stream(rt, words, asked.first, tells)?;
-            obey_over(rt, words, &plan, &mut *first, tells)
+            let mut first = stream(rt, words, asked.first, noted, tells)?;
+            obey_over(rt, words, &plan, &mut *first, noted, tells)
         }
     }
 }
@@ -255,10 +318,10 @@ fn page(rt: &HostRuntime, words: &Words) -> Option<&'static str> {
 }
 
 /// The status of the words: that of the page that they ask for, or of what they say.
-fn done(rt: &HostRuntime, words: &Words, tells: bool) -> Status {
+fn done(rt: &HostRuntime, words: &Words, noted: &mut Noted, tells: bool) -> Status {
     match page(rt, words) {
         Some(text) => write_page(text, &mut StdoutSink::new(io::writer(rt))),
-        None => obey(rt, words, tells).unwrap_or(Status::OutOfMemory),
+        None => obey(rt, words, noted, tells).unwrap_or(Status::OutOfMemory),
     }
 }
 
@@ -267,13 +330,17 @@ fn main(rt: HostRuntime) -> ExitCode {
     let ending = match words(&rt) {
         Ok(given) => {
             let (words, tells) = given.behind_progress();
-            let status = done(&rt, &words, tells);
+            let mut noted = Noted::default();
+            let status = done(&rt, &words, &mut noted, tells);
             let mut errors = StderrSink::new(rt.stderr());
-            finish(&status, &mut errors).advise(&words, &status, &mut errors)
+            finish(&status, &mut errors)
+                .advise(&words, &noted, &status, &mut errors)
+                .warn(&noted, &mut errors)
         }
         Err(error) => {
             let status = status_without_words(&error);
-            finish(&status, &mut StderrSink::new(rt.stderr()))
+            let mut errors = StderrSink::new(rt.stderr());
+            finish(&status, &mut errors).advise_unread(&status, &mut errors)
         }
     };
     ExitCode::from(ending.code)
