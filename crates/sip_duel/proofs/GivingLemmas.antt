@@ -1,9 +1,17 @@
--- How the bytes that are left move to a buffer.
-use Rattle.std.proofs.Common.{◌≡◌, ℕ, ◌+◌, ◌-◌, ◌≤◌, List, ◌++◌, length, take, drop, sym, ap, ◌∙◌, arith, length-drop, take_all, take-add, Bool, true, false, [], ◌∷◌, append-nil}
+-- How the bytes that are left move to a buffer, and what a frame of which nothing was sent is.
+use Rattle.std.proofs.Common.{◌≡◌, ℕ, ◌+◌, ◌-◌, ◌<◌, ◌≤◌, List, ◌++◌, length, take, drop, sym, ap, subst, ◌∙◌, arith, length-drop, take_all, take-add, Bool, true, false, [], ◌∷◌, append-nil}
 use Rattle.sip_ports.specs.declared.port.TalkEvent.{TalkEvent}
 use Rattle.sip_ports.specs.declared.port.TalkEvent.TheVariants.{Ended}
 use Rattle.sip_ports.specs.Ports.{heard, ins, outs}
 use Rattle.sip_ports.proofs.TalkLemmas.{heard-append, heard-ins, heard-outs}
+use Rattle.sip_wire.specs.declared.frame.Taken.{Taken}
+use Rattle.sip_wire.specs.declared.frame.Taken.TheVariants.{Part}
+use Rattle.sip_wire.specs.declared.kind.Place.{Place}
+use Rattle.sip_wire.specs.declared.message.Message.{Message}
+use Rattle.sip_wire.specs.declared.version.Version.{Version}
+use Rattle.sip_wire.specs.Spelling.{asked}
+use Rattle.sip_wire.specs.Taking.{Judges}
+use Rattle.sip_wire.proofs.ReadingLaws.{asked-least}
 use Rattle.std.specs.Prelude.{if◌then◌else◌}
 use Rattle.std.proofs.lemmas.Grind.{common_steps}
 use Rattle.std.proofs.lemmas.List.{take-append-drop, take-append-le}
@@ -60,3 +68,12 @@ ended_or_not false talk after front e h = ap heard e ∙ h
 -- the next bytes were received, by what was told
 pub given_events : (at n : ℕ) (talk after shown events : List TalkEvent) (out cs : List ℕ) → after ≡ talk ++ shown → shown ≡ events → events ≡ ins cs → cs ≡ take n (drop at out) → heard talk ≡ take at out → heard after ≡ take (at + n) out
 given_events at n talk after shown events out cs e same came is h = ap heard (e ∙ ap (λ x. talk ++ x) (same ∙ came)) ∙ front_given at n talk out cs h is
+
+-- a part of a frame is less than it
+pub part_is_short : (version : Version) (place : Place) (before after : List ℕ) (m : Message) (t : Taken) → t ≡ Part → Judges version place before m t → after ≡ before → length after < asked version place after
+part_is_short version place before after m t is judged same =
+    rw same (subst (Judges version place before m) is judged).short
+
+-- nothing is less than a frame
+pub none_is_short : (version : Version) (place : Place) (bytes : List ℕ) → bytes ≡ [] → length bytes < asked version place bytes
+none_is_short version place bytes none = omega (arith, ap (λ (l : List ℕ). length l) none, asked-least version place bytes)

@@ -3,7 +3,6 @@ pub mod GivingLemmas
 pub mod HonestLemmas
 pub mod KeepsLemmas
 pub mod LyingLemmas
-pub mod PartLemmas
 pub mod TurnLemmas
 pub mod WalkLemmas
 pub mod StrayLemmas

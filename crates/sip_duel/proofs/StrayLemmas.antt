@@ -10,13 +10,14 @@ use Rattle.sip_wire.specs.declared.message.Message.{Message}
 use Rattle.sip_wire.specs.declared.message.WireFault.{WireFault}
 use Rattle.sip_wire.specs.declared.message.WireFault.TheVariants as faults
 use Rattle.sip_wire.specs.declared.version.Version.{Version}
+use Rattle.sip_wire.specs.Faults.{IsOfBytes}
 use Rattle.sip_wire.specs.Reading.{read_frame}
 use Rattle.sip_wire.specs.Spelling.{spelling}
+use Rattle.sip_wire.specs.Taking.{IsNoFrame}
 use Rattle.sip_wire.proofs.ReadingLaws.{asked-least, read_frame-append_fault, read_frame-closed}
 use Rattle.sip_helper.specs.Serving.{IsMessage, Turn, after_turn, state_after as state_behind}
 use Rattle.sip_helper.specs.Turns.{HelperState, is_allowed, step, owed, after_answer}
 use Rattle.sip_duel.specs.Story.{IsOutOfTurn}
-use Rattle.sip_duel.specs.Taking.{IsNoFrame}
 use Rattle.sip_duel.proofs.TurnLemmas.{AreMessages, frames_of, replies_of}
 use Rattle.sip_duel.proofs.WalkLemmas.{Round, exchange, Comes, Walk, walk_comes, written_exchange, spelled_some, read_message, one_message, nil_parts}
 
@@ -71,22 +72,26 @@ peel v r now later rest more e sent some =
 
 -- a message out of turn, or no frame
 abbrev pub IsBad : HelperState → List ℕ → Type 0
-IsBad s bytes = IsOutOfTurn s bytes ⊎ IsNoFrame s.version bytes
+IsBad s bytes = IsOutOfTurn s bytes ⊎ IsNoFrame s.version ToHelper bytes
+
+-- a fault that bytes show is not that of their end
+not_closed : (fault : WireFault) → IsOfBytes fault → fault ≢ faults.Closed
+not_closed fault shown e = subst IsOfBytes e shown
 
 pub bad_some : (s : HelperState) (bytes : List ℕ) → IsBad s bytes → bytes ≢ []
 bad_some s bytes (inl p) e = spelled_some s.version p.message [] (append-nil (spelling s.version p.message) ∙ sym p.said ∙ e)
 bad_some s bytes (inr p) e =
     let closed : read_frame s.version ToHelper bytes ≡ Err faults.Closed = ap (read_frame s.version ToHelper) e ∙ read_frame-closed s.version ToHelper [] (omega (arith, asked-least s.version ToHelper [])) in
-    let both : ◌≡◌ {A = Result (Message × List ℕ) WireFault} (Err p.fault) (Err faults.Closed) = sym p.read ∙ closed in
-    p.shown cc
+    let both : ◌≡◌ {A = Result (Message × List ℕ) WireFault} (Err p.0) (Err faults.Closed) = sym p.1.read ∙ closed in
+    not_closed p.0 p.1.shown cc
 
 not_bad : (v : Version) (s : HelperState) (m : Message) (bytes more rest : List ℕ) → Comes v s m → bytes ++ more ≡ spelling s.version m ++ rest → IsBad s bytes → ⊥
 not_bad v s m bytes more rest comes e (inl p) =
     let same = one_message s.version p.message m more rest p.is comes.is (ap (λ l. l ++ more) (sym p.said) ∙ e) in
     let both : true ≡ false = sym comes.may ∙ ap (is_allowed s) (sym same.0) ∙ p.out in cc
 not_bad v s m bytes more rest comes e (inr p) =
-    let both : ◌≡◌ {A = Result (Message × List ℕ) WireFault} (Err p.fault) (Ok (m, rest)) =
-    sym (read_frame-append_fault s.version ToHelper bytes more p.fault p.read p.shown) ∙ ap (read_frame s.version ToHelper) e ∙ read_message s.version m rest comes.is in cc
+    let both : ◌≡◌ {A = Result (Message × List ℕ) WireFault} (Err p.0) (Ok (m, rest)) =
+    sym (read_frame-append_fault s.version ToHelper bytes more p.0 p.1.read (not_closed p.0 p.1.shown)) ∙ ap (read_frame s.version ToHelper) e ∙ read_message s.version m rest comes.is in cc
 
 -- the first round, in front of something that was sent
 record Passes (v : Version) (s : HelperState) (t : Turn) (ts : List Turn) (r : Round) (rest : List Round) (now later end : List TalkEvent) (part : List ℕ) : Type 0 where

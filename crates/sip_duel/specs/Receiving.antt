@@ -5,7 +5,7 @@ use Rattle.sip_ports.specs.declared.port.PortStop.TheVariants.{Failed, OutOfMemo
 use Rattle.sip_duel.specs.declared.kept.Kept.{Kept}
 use Rattle.sip_duel.specs.declared.kept.Mood.{Mood}
 use Rattle.sip_duel.specs.declared.kept.Mood.TheVariants as moods
-use Rattle.sip_duel.specs.Story.{left}
+use Rattle.sip_duel.specs.Story.{left, sent_part}
 
 -- memory was refused, which is the only cause to stop, and the count of refusals rose; else it
 -- stays
@@ -18,8 +18,8 @@ StopsOnlyByWant before now (Err OutOfMemory) = now ≡ min (before + 1) (2 ^ 64 
 -- the helper appended, and how much of that was given.
 pub record IsAsItWas (old new : Kept) : Type 0 where
   pub talk : new.talk.items ≡ old.talk.items
-  pub version : new.part.version ≡ old.part.version
-  pub part : new.part.bytes.items ≡ old.part.bytes.items
+  pub version : new.version ≡ old.version
+  pub part : sent_part new ≡ sent_part old
   pub out : new.out ≡ old.out
   pub at : new.at ≡ old.at
   pub mood : new.mood ≡ old.mood

@@ -8,7 +8,9 @@ use Rattle.sip_ports.specs.Memory.{sink_bytes}
 use Rattle.sip_wire.specs.declared.message.Message.{Message}
 use Rattle.sip_wire.specs.declared.kind.Place.TheVariants.{ToHelper}
 use Rattle.sip_wire.specs.declared.version.Version.{Version}
+use Rattle.sip_wire.specs.Frames.{frame_bytes}
 use Rattle.sip_wire.specs.Spelling.{asked, spelling}
+use Rattle.sip_wire.specs.Taking.{IsNoFrame}
 use Rattle.sip_helper.specs.Serving.{IsMessage}
 use Rattle.sip_helper.specs.Turns.{HelperState, fresh, is_allowed, step, owed, after_answer}
 use Rattle.sip_duel.specs.declared.helper.More.{More}
@@ -16,7 +18,6 @@ use Rattle.sip_duel.specs.declared.helper.More.TheVariants as mores
 use Rattle.sip_duel.specs.declared.kept.Kept.{Kept}
 use Rattle.sip_duel.specs.declared.kept.Mood.{Mood}
 use Rattle.sip_duel.specs.declared.kept.Mood.TheVariants as moods
-use Rattle.sip_duel.specs.Taking.{IsNoFrame}
 
 -- one step of a helper: a message was heard, for which memory may be refused, or the reply that was
 -- owed was appended
@@ -59,6 +60,10 @@ pub record Follows (steps : List Step) (part give : List ℕ)
   pub came : heard talk ++ give ≡ said steps
   pub lasts : All (λ e. e ≢ Ended) talk
 
+-- the part of a frame that was sent
+abbrev pub sent_part : Kept → List ℕ
+sent_part k = frame_bytes k.frame
+
 -- the bytes that were appended and not given yet
 abbrev pub left : Kept → List ℕ
 left k = drop k.at (sink_bytes k.out)
@@ -66,10 +71,10 @@ left k = drop k.at (sink_bytes k.out)
 -- it goes on, by the turns
 pub record IsLive (state : Option HelperState) (k : Kept) : Type 0 where
   pub steps : List Step
-  pub follows : Follows steps k.part.bytes.items (left k) k.talk.items
+  pub follows : Follows steps (sent_part k) (left k) k.talk.items
   pub told : state ≡ Some (state_after steps)
   pub opened : k.mood ≡ moods.Open
-  pub version : k.part.version ≡ (state_after steps).version
+  pub version : k.version ≡ (state_after steps).version
 
 -- a message that may not come
 pub record IsOutOfTurn (s : HelperState) (bytes : List ℕ) : Type 0 where
@@ -86,7 +91,8 @@ pub record IsStray (talk : List TalkEvent) : Type 0 where
   pub now : List TalkEvent
   pub later : List TalkEvent
   pub follows : Follows steps bytes give now
-  pub why : IsOutOfTurn (state_after steps) bytes ⊎ IsNoFrame (state_after steps).version bytes
+  pub why : IsOutOfTurn (state_after steps) bytes
+      ⊎ IsNoFrame (state_after steps).version ToHelper bytes
   pub split : talk ≡ now ++ later
 
 -- the end was told at once

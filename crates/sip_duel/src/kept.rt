@@ -5,14 +5,33 @@ ghost use Rattle.std.specs.Prelude.{OnErr, IfOk, MatchResult, vec_len, vec_capac
 ghost use Rattle.sip_ports.specs.Memory.{sink_bytes, sink_is_sure};
 ghost use Rattle.sip_ports.specs.Ports.{outs, ins, heard};
 ghost use Rattle.sip_ports.specs.declared.port.TalkEvent.TheVariants.{Ended};
+ghost use Rattle.sip_wire.specs.Frames.{frame_bytes, frame_message};
 ghost use Rattle.sip_wire.specs.Spelling.{asked};
+ghost use Rattle.sip_wire.specs.Taking.{room_for};
 ghost use Rattle.sip_wire.specs.declared.kind.Place.TheVariants as places;
 ghost use Rattle.sip_wire.specs.declared.version.Version.TheVariants as versions;
-ghost use Rattle.sip_duel.specs.Taking.{Takes};
+ghost use Rattle.sip_duel.specs.Taking.{Takes, version_after};
 
-use crate::part::{Part, Taken};
+use sip_field::OutOfMemory;
 use sip_ports::{MemorySink, TalkEvent, received_events, sent_events};
+use sip_wire::{Frame, Message, Place, Taken, Version};
 use std::alloc::{AllocError, Global};
+
+/// The version of the frames behind a message.
+fn version_behind(version: Version, message: &Message) -> Version
+    ensures { result ≡ version_after version message.now }
+{
+    match message {
+        Message::Open {
+            version: number,
+            ..
+        } => match Version::of(*number) {
+            Some(opened) => opened,
+            None => Version::One,
+        },
+        _ => version,
+    }
+}
 
 /// Whether more may come.
 #[derive(Clone, Copy, Debug, PartialEq, Eq)]
@@ -25,51 +44,56 @@ pub(crate) enum Mood {
     Failed,
 }
 
-/// The talk, the frame that is being sent, what the helper appended, and how much of it was given:
-/// what was received is the front of what was appended.
+/// The talk, the part of a frame that was sent, the version of the frames, what the helper
+/// appended, and how much of it was given: what was received is the front of what was appended.
 #[derive(Drop)]
 pub(crate) struct Kept {
     pub(crate) alloc: Global,
     pub(crate) talk: Vec<TalkEvent>,
-    pub(crate) part: Part,
+    pub(crate) frame: Frame,
+    pub(crate) version: Version,
     pub(crate) out: MemorySink,
     pub(crate) at: usize,
     pub(crate) mood: Mood,
     pub(crate) ghost within: { at ≤ length (sink_bytes out) },
     pub(crate) ghost sure: { sink_is_sure out },
     pub(crate) ghost given: { heard talk.items ≡ take at (sink_bytes out) },
+    pub(crate) ghost short: { length (frame_bytes frame)
+        < asked version places.ToHelper (frame_bytes frame) },
 }
 
 impl Kept {
-    /// Nothing has happened.
-    pub(crate) fn new(alloc: Global) -> Result<Kept, AllocError>
+    ghost use Rattle.sip_duel.specs.Story.{sent_part};
+
+    /// Nothing has happened. This takes the memory that a frame may need.
+    pub(crate) fn new(alloc: Global) -> Result<Kept, OutOfMemory>
         ensures talk { IfOk result (λ kept. kept.talk.items ≡ []) }
-        ensures part { IfOk result (λ kept. kept.part.bytes.items ≡ []) }
-        ensures version { IfOk result (λ kept. kept.part.version ≡ versions.One) }
+        ensures part { IfOk result (λ kept. sent_part kept ≡ []) }
+        ensures version { IfOk result (λ kept. kept.version ≡ versions.One) }
         ensures out { IfOk result (λ kept. sink_bytes kept.out ≡ []) }
         ensures at { IfOk result (λ kept. kept.at ≡ 0) }
         ensures mood { IfOk result (λ kept. kept.mood ≡ Mood.Open) }
     {
-        let part = Part::new(alloc)?;
+        let frame = Frame::new(alloc)?;
         Ok(Kept {
             alloc,
             talk: Vec::new(alloc),
-            part,
+            frame,
+            version: Version::One,
             out: MemorySink::new(alloc, usize::MAX, Vec::new(alloc)),
             at: 0,
             mood: Mood::Open,
         })
     }
 
-    /// Bytes are sent, no more than the frame has.
+    /// Bytes are sent, no more than the frame has room for.
     pub(crate) fn put(&mut self, bytes: &[u8]) -> Result<Taken, AllocError>
-        requires { length (self.old.part.bytes.items ++ bytes.now)
-            ≤ asked self.old.part.version places.ToHelper
-            (self.old.part.bytes.items ++ bytes.now) }
-        ensures ok { IfOk result (λ taken. Takes self.old.part.version self.old.part.bytes.items
-            bytes.now self.new.part.version self.new.part.bytes.items taken) }
-        ensures err { OnErr result ((self.new.part.version ≡ self.old.part.version)
-            × (self.new.part.bytes.items ≡ self.old.part.bytes.items)) }
+        requires { length bytes.now ≤ room_for self.old.version places.ToHelper
+            (sent_part self.old) }
+        ensures ok { IfOk result (λ taken. Takes self.old.version (sent_part self.old) bytes.now
+            (frame_message self.new.frame) self.new.version (sent_part self.new) taken) }
+        ensures err { OnErr result ((self.new.version ≡ self.old.version)
+            × (sent_part self.new ≡ sent_part self.old)) }
         ensures talk { MatchResult result
             (λ _. self.new.talk.items ≡ self.old.talk.items ++ outs bytes.now)
             (λ _. self.new.talk.items ≡ self.old.talk.items) }
@@ -78,9 +102,25 @@ impl Kept {
         ensures mood { self.new.mood ≡ self.old.mood }
     {
         let events = sent_events(self.alloc, bytes)?;
-        self.part.reserve(bytes.len())?;
         self.talk.extend_from_slice(&events)?;
-        Ok(self.part.put(bytes))
+        self.frame.put(Place::ToHelper, self.version, bytes);
+        let taken = self.frame.judge(Place::ToHelper, self.version);
+        match taken {
+            Taken::Part => {}
+            Taken::Whole => {
+                self.version = version_behind(self.version, self.frame.message());
+                self.frame.clear();
+            }
+            Taken::NoFrame(_) => self.frame.clear(),
+        }
+        Ok(taken)
+    }
+
+    /// The message that was sent last.
+    pub(crate) fn message(&self) -> &Message
+        ensures { result.now ≡ frame_message self.now.frame }
+    {
+        self.frame.message()
     }
 
     /// Bytes are sent that no one hears.
@@ -88,7 +128,8 @@ impl Kept {
         ensures talk { MatchResult result
             (λ _. self.new.talk.items ≡ self.old.talk.items ++ outs bytes.now)
             (λ _. self.new.talk.items ≡ self.old.talk.items) }
-        ensures part { self.new.part ≡ self.old.part }
+        ensures part { sent_part self.new ≡ sent_part self.old }
+        ensures version { self.new.version ≡ self.old.version }
         ensures out { self.new.out ≡ self.old.out }
         ensures at { self.new.at ≡ self.old.at }
         ensures mood { self.new.mood ≡ self.old.mood }
@@ -110,7 +151,8 @@ impl Kept {
             (λ n. drop self.old.at (sink_bytes self.old.out)
             ≡ take n buf.new ++ drop self.new.at (sink_bytes self.new.out))
             (λ _. self.new.at ≡ self.old.at) }
-        ensures part { self.new.part ≡ self.old.part }
+        ensures part { sent_part self.new ≡ sent_part self.old }
+        ensures version { self.new.version ≡ self.old.version }
         ensures out { self.new.out ≡ self.old.out }
         ensures mood { self.new.mood ≡ self.old.mood }
     {
@@ -127,7 +169,8 @@ impl Kept {
     pub(crate) fn end(&mut self)
         requires { vec_len self.old.talk < vec_capacity self.old.talk }
         ensures talk { self.new.talk.items ≡ self.old.talk.items ++ Ended ∷ [] }
-        ensures part { self.new.part ≡ self.old.part }
+        ensures part { sent_part self.new ≡ sent_part self.old }
+        ensures version { self.new.version ≡ self.old.version }
         ensures out { self.new.out ≡ self.old.out }
         ensures at { self.new.at ≡ self.old.at }
         ensures mood { self.new.mood ≡ Mood.Over }
@@ -141,7 +184,8 @@ impl Kept {
     pub(crate) fn end_again(&mut self) -> Result<(), AllocError>
         ensures ok { OnOk result (self.new.talk.items ≡ self.old.talk.items ++ Ended ∷ []) }
         ensures err { OnErr result (self.new.talk.items ≡ self.old.talk.items) }
-        ensures part { self.new.part ≡ self.old.part }
+        ensures part { sent_part self.new ≡ sent_part self.old }
+        ensures version { self.new.version ≡ self.old.version }
         ensures out { self.new.out ≡ self.old.out }
         ensures at { self.new.at ≡ self.old.at }
         ensures mood { self.new.mood ≡ self.old.mood }
@@ -154,7 +198,8 @@ impl Kept {
     pub(crate) fn reserve(&mut self) -> Result<(), AllocError>
         ensures talk { self.new.talk.items ≡ self.old.talk.items }
         ensures room { OnOk result (vec_len self.new.talk < vec_capacity self.new.talk) }
-        ensures part { self.new.part ≡ self.old.part }
+        ensures part { sent_part self.new ≡ sent_part self.old }
+        ensures version { self.new.version ≡ self.old.version }
         ensures out { self.new.out ≡ self.old.out }
         ensures at { self.new.at ≡ self.old.at }
         ensures mood { self.new.mood ≡ self.old.mood }

@@ -39,7 +39,6 @@ mod liar;
 mod lie;
 mod link;
 mod mute;
-mod part;
 mod skewed;
 mod wants;
 

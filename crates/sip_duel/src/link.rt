@@ -7,6 +7,7 @@ ghost use Rattle.std.specs.Io.{ReadsAtMost, WritesAtMost};
 ghost use Rattle.sip_ports.specs.Memory.{sink_bytes, sink_is_sure};
 ghost use Rattle.sip_ports.specs.Ports.{Hears, Sends, heard};
 ghost use Rattle.sip_duel.specs.Receiving.{IsAsItWas, Receives, StopsOnlyByWant, closed};
+ghost use Rattle.sip_wire.specs.Frames.{frame_message};
 ghost use Rattle.sip_wire.specs.Spelling.{fits};
 ghost use Rattle.sip_wire.specs.declared.version.Version.TheVariants.{Two};
 ghost use Rattle.sip_helper.specs.Turns.{fresh};
@@ -15,12 +16,11 @@ ghost use Rattle.sip_duel.specs.Story.{HasAsked, Keeps, KeepsBy, left};
 ghost use Rattle.sip_duel.specs.declared.kept.Mood.TheVariants as moods;
 
 use crate::kept::{Kept, Mood};
-use crate::part::Taken;
 use crate::wants::Wants;
 use crate::{Helper, More};
 use sip_field::OutOfMemory;
 use sip_ports::{Link, MemorySink, PortStop, Sink, TalkEvent};
-use sip_wire::Message;
+use sip_wire::{Message, Place, Taken};
 use std::alloc::Global;
 
 /// Hands a message over.
@@ -132,16 +132,16 @@ impl HelperLink {
         }
     }
 
-    /// Hands a message over, where the helper is still there.
-    fn hear(&mut self, message: &Message)
-        requires { IsTrue (fits Two message.now) }
+    /// Hands the message that was sent last over, where the helper is still there.
+    fn hear(&mut self)
+        requires { IsTrue (fits Two (frame_message self.old.kept.frame)) }
         ensures kept { self.new.kept ≡ self.old.kept }
         ensures wants { self.new.wants ≡ self.old.wants }
-        ensures hears { Heeds (option_and_then honest_state self.old.helper) message.now
-            (option_and_then honest_state self.new.helper) }
+        ensures hears { Heeds (option_and_then honest_state self.old.helper)
+            (frame_message self.old.kept.frame) (option_and_then honest_state self.new.helper) }
     {
         if let Some(helper) = &mut self.helper {
-            tell(helper, message);
+            tell(helper, self.kept.message());
         }
     }
 
@@ -162,14 +162,15 @@ impl HelperLink {
         ensures keeps { Keeps (option_and_then honest_state self.old.helper) self.old.kept
             → Keeps (option_and_then honest_state self.new.helper) self.new.kept }
     {
-        let count = self.kept.part.room().min(buf.len());
+        let room = self.kept.frame.room(Place::ToHelper, self.kept.version);
+        let count = room.min(buf.len());
         match self.kept.put(&buf[..count]) {
             Ok(Taken::Part) => Ok(count),
-            Ok(Taken::Whole(message)) => {
-                self.hear(&message);
+            Ok(Taken::Whole) => {
+                self.hear();
                 Ok(count)
             }
-            Ok(Taken::NoFrame) => {
+            Ok(Taken::NoFrame(_)) => {
                 self.kept.mood = Mood::Over;
                 Ok(count)
             }

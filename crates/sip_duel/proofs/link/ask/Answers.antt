@@ -4,4 +4,4 @@ use Rattle.sip_duel.proofs.KeepsLemmas.{asked_keeps}
 use Rattle.sip_duel.proofs.link.ask.Goals as goal
 
 pub returns-in-Ok-clause-keeps : goal.returns-in-Ok-clause-keeps
-returns-in-Ok-clause-keeps g c = asked_keeps OutOfMemory _ _ c.args.kept.now _ c.in-Ok.more c.requires.opened c.requires.none c.in-Ok.ensures.replies refl refl refl refl
+returns-in-Ok-clause-keeps g c = asked_keeps OutOfMemory _ _ c.args.kept.now _ c.in-Ok.more c.requires.opened c.requires.none c.in-Ok.ensures.replies refl refl refl refl refl
