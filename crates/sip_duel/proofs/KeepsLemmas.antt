@@ -27,7 +27,7 @@ use Rattle.sip_duel.specs.declared.kept.Mood.{Mood}
 use Rattle.sip_duel.specs.declared.kept.Mood.TheVariants as moods
 use Rattle.sip_duel.specs.declared.helper.More.{More}
 use Rattle.sip_duel.specs.declared.helper.More.TheVariants as mores
-use Rattle.sip_duel.specs.Helping.{Hears, HearsBy, IsOwed, Appends}
+use Rattle.sip_duel.specs.Helping.{Hears, HearsBy, IsGoing, IsOwed, Appends}
 use Rattle.sip_duel.specs.Story.{Step, Heard, Answered, state_after, said, frames, Follows, left, sent_part, IsLive, IsShort, IsStray, IsOver, WasRight, BeginsWithEnd, Keeps, KeepsEnded, KeepsBy, HasAsked, IsHonestTalk}
 use Rattle.sip_duel.specs.Taking.{Takes, version_after}
 
@@ -358,6 +358,12 @@ asked_keeps E s new k l mores.Goes opened none r at mood part version talk p =
 asked_keeps E s new k l mores.Ended opened none r at mood part version talk p = λ m talk' out' at' mood'.
     let some : left l ≡ [] = left_some l.at (sink_bytes k.out) r.bytes (sink_bytes l.out) (at ∙ none) r.longer ∙ r.going in
     answered_over s new new k m opened (left_none k.at (sink_bytes k.out) none) (rw (out', at') some) mood' (subst (λ b. IsOwed s new b mores.Ended) r.going r.owed) (talk' ∙ ap (λ t. t ++ Ended ∷ []) talk) p
+
+-- a helper that ended appended nothing
+pub none_appended : {E : Type 0} (s new : Option HelperState) (before after : List ℕ) (more : More) → ◌≡◌ {A = Result More E} (Ok more) (Ok mores.Ended) → Appends s new before after more → after ≡ before
+none_appended s new before after more is r =
+    let ended : more ≡ mores.Ended = cc in
+    r.longer ∙ ap (λ b. before ++ b) (subst (λ m. IsGoing m r.bytes) ended r.going) ∙ append-nil before
 
 pub asked_some : (E : Type 0) (s new : Option HelperState) (k l : Kept) (more : More) → k.at ≡ length (sink_bytes k.out)
     → Appends s new (sink_bytes k.out) (sink_bytes l.out) more → l.at ≡ k.at → l.mood ≡ k.mood → HasAsked {E = E} k l (Ok more)

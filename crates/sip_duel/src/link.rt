@@ -11,7 +11,7 @@ ghost use Rattle.sip_wire.specs.Frames.{frame_message};
 ghost use Rattle.sip_wire.specs.Spelling.{fits};
 ghost use Rattle.sip_wire.specs.declared.version.Version.TheVariants.{Two};
 ghost use Rattle.sip_helper.specs.Turns.{fresh};
-ghost use Rattle.sip_duel.specs.Helping.{Hears as Heeds, Replies};
+ghost use Rattle.sip_duel.specs.Helping.{Hears as Heeds, IsMute, Replies};
 ghost use Rattle.sip_duel.specs.Story.{HasAsked, Keeps, KeepsBy, left};
 ghost use Rattle.sip_duel.specs.declared.kept.Mood.TheVariants as moods;
 
@@ -26,7 +26,8 @@ use std::alloc::Global;
 /// Hands a message over.
 fn tell(helper: &mut Box<dyn Helper>, message: &Message)
     requires { IsTrue (fits Two message.now) }
-    ensures { Heeds (honest_state helper.old) message.now (honest_state helper.new) }
+    ensures hears { Heeds (honest_state helper.old) message.now (honest_state helper.new) }
+    ensures mute { IsTrue (is_mute helper.old) → IsTrue (is_mute helper.new) }
 {
     helper.hear(message);
 }
@@ -37,6 +38,8 @@ fn reply(helper: &mut Box<dyn Helper>, out: &mut MemorySink) -> Result<More, Out
     ensures sure { sink_is_sure out.new }
     ensures replies { Replies (honest_state helper.old) (honest_state helper.new)
         (sink_bytes out.old) (sink_bytes out.new) result }
+    ensures mute { IsTrue (is_mute helper.old)
+        → (result ≡ Ok More.Ended) × IsTrue (is_mute helper.new) }
 {
     helper.answer(out)
 }
@@ -51,6 +54,8 @@ fn ask(helper: &mut Box<dyn Helper>, kept: &mut Kept) -> Result<More, OutOfMemor
     ensures some { HasAsked kept.old kept.new result }
     ensures keeps { Keeps (honest_state helper.old) kept.old
         → KeepsBy (honest_state helper.new) kept.new result }
+    ensures mute { IsTrue (is_mute helper.old) → IsTrue (is_mute helper.new)
+        × (sink_bytes kept.new.out ≡ sink_bytes kept.old.out) }
 {
     match reply(helper, &mut kept.out) {
         Ok(more) => Ok(more),
@@ -139,6 +144,7 @@ impl HelperLink {
         ensures wants { self.new.wants ≡ self.old.wants }
         ensures hears { Heeds (option_and_then honest_state self.old.helper)
             (frame_message self.old.kept.frame) (option_and_then honest_state self.new.helper) }
+        ensures mute { IsMute is_mute self.old.helper → IsMute is_mute self.new.helper }
     {
         if let Some(helper) = &mut self.helper {
             tell(helper, self.kept.message());
@@ -161,6 +167,7 @@ impl HelperLink {
             × (self.new.helper ≡ self.old.helper)) }
         ensures keeps { Keeps (option_and_then honest_state self.old.helper) self.old.kept
             → Keeps (option_and_then honest_state self.new.helper) self.new.kept }
+        ensures mute { IsMute is_mute self.old.helper → IsMute is_mute self.new.helper }
     {
         let room = self.kept.frame.room(Place::ToHelper, self.kept.version);
         let count = room.min(buf.len());
@@ -193,6 +200,7 @@ impl HelperLink {
         ensures same { OnErr result (IsAsItWas self.old.kept self.new.kept) }
         ensures keeps { Keeps (option_and_then honest_state self.old.helper) self.old.kept
             → Keeps (option_and_then honest_state self.new.helper) self.new.kept }
+        ensures mute { IsMute is_mute self.old.helper → IsMute is_mute self.new.helper }
     {
         match self.kept.put_past(buf) {
             Ok(()) => Ok(buf.len()),
@@ -210,6 +218,8 @@ impl HelperLink {
         ensures some { HasAsked self.old.kept self.new.kept result }
         ensures keeps { Keeps (option_and_then honest_state self.old.helper) self.old.kept
             → KeepsBy (option_and_then honest_state self.new.helper) self.new.kept result }
+        ensures mute { IsMute is_mute self.old.helper → IsMute is_mute self.new.helper
+            × (sink_bytes self.new.kept.out ≡ sink_bytes self.old.kept.out) }
     {
         match &mut self.helper {
             Some(helper) => ask(helper, &mut self.kept),
@@ -233,6 +243,8 @@ impl HelperLink {
         ensures wants { StopsOnlyByWant self.old.wants.count self.new.wants.count result }
         ensures keeps { Keeps (option_and_then honest_state self.old.helper) self.old.kept
             → Keeps (option_and_then honest_state self.new.helper) self.new.kept }
+        ensures mute { IsMute is_mute self.old.helper → IsMute is_mute self.new.helper
+            × (sink_bytes self.new.kept.out ≡ sink_bytes self.old.kept.out) }
     {
         match self.kept.give(buf) {
             Ok(count) => Ok(count),
@@ -263,6 +275,7 @@ impl HelperLink {
         ensures wants { StopsOnlyByWant self.old.wants.count self.new.wants.count result }
         ensures keeps { Keeps (option_and_then honest_state self.old.helper) self.old.kept
             → Keeps (option_and_then honest_state self.new.helper) self.new.kept }
+        ensures mute { IsMute is_mute self.old.helper → IsMute is_mute self.new.helper }
     {
         if buf.is_empty() {
             return Ok(0);
@@ -285,6 +298,8 @@ impl HelperLink {
         ensures wants { StopsOnlyByWant self.old.wants.count self.new.wants.count result }
         ensures keeps { Keeps (option_and_then honest_state self.old.helper) self.old.kept
             → Keeps (option_and_then honest_state self.new.helper) self.new.kept }
+        ensures mute { IsMute is_mute self.old.helper → IsMute is_mute self.new.helper
+            × (sink_bytes self.new.kept.out ≡ sink_bytes self.old.kept.out) }
     {
         if self.kept.at < self.kept.out.bytes().len() {
             return self.give(buf);
@@ -308,6 +323,8 @@ impl HelperLink {
         ensures wants { StopsOnlyByWant self.old.wants.count self.new.wants.count result }
         ensures keeps { Keeps (option_and_then honest_state self.old.helper) self.old.kept
             → Keeps (option_and_then honest_state self.new.helper) self.new.kept }
+        ensures mute { IsMute is_mute self.old.helper → IsMute is_mute self.new.helper
+            × (sink_bytes self.new.kept.out ≡ sink_bytes self.old.kept.out) }
     {
         let had = self.kept.out.bytes().len();
         if self.kept.at < had {
@@ -343,6 +360,8 @@ impl HelperLink {
         ensures wants { StopsOnlyByWant self.old.wants.count self.new.wants.count result }
         ensures keeps { Keeps (option_and_then honest_state self.old.helper) self.old.kept
             → Keeps (option_and_then honest_state self.new.helper) self.new.kept }
+        ensures mute { IsMute is_mute self.old.helper → IsMute is_mute self.new.helper
+            × (sink_bytes self.new.kept.out ≡ sink_bytes self.old.kept.out) }
     {
         if buf.is_empty() {
             return Ok(0);

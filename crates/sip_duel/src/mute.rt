@@ -9,7 +9,7 @@ use sip_field::OutOfMemory;
 use sip_ports::MemorySink;
 use sip_wire::Message;
 
-/// A helper that has ended from the start.
+/// A helper that has ended from the start, and says nothing.
 #[derive(Drop)]
 pub struct Mute {}
 
@@ -21,9 +21,11 @@ impl Mute {
 }
 
 impl Helper for Mute {
-    ghost use Rattle.std.specs.Prelude.{None};
+    ghost use Rattle.std.specs.Prelude.{None, true};
 
     ghost honest_state = { λ _. None };
+
+    ghost is_mute = { λ _. true };
 
     fn hear(&mut self, _message: &Message) {}
 
