@@ -10,9 +10,9 @@ ghost use Rattle.sip_duel.specs.declared.honest.Standing.TheVariants as standing
 
 use crate::{Helper, More};
 use sip_field::OutOfMemory;
-use sip_helper::HelperCore;
+use sip_helper::{HelperCore, put_refusal};
 use sip_ports::MemorySink;
-use sip_wire::{Message, Version, encode};
+use sip_wire::{Message, Version};
 use std::alloc::Global;
 
 /// How far the honest helper kept to the turns.
@@ -68,7 +68,7 @@ pub(crate) fn refuse(version: Version, out: &mut MemorySink) -> Result<More, Out
         → Replies None new (sink_bytes out.old) (sink_bytes out.new) result }
     ensures refusal { IsRefusal version (sink_bytes out.old) (sink_bytes out.new) result }
 {
-    match encode(&Message::Refuse { code: 4 }, version, out) {
+    match put_refusal(version, 4, out) {
         Ok(()) => Ok(More::Goes),
         Err(_) => Err(OutOfMemory),
     }

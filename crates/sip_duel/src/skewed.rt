@@ -17,26 +17,32 @@ use std::alloc::Global;
 #[derive(Drop)]
 pub struct Skewed {
     honest: Honest,
+    // The frame of one more update. A message is as large as the longest frame's rows, so it waits
+    // on the heap: the stack of the call that sends the end of a stream has no place for it.
+    one_more: Option<Box<Message>>,
 }
 
 impl Skewed {
-    /// A helper that has heard nothing.
+    /// A helper that has heard nothing. Where memory is refused for its update, it counts none.
     pub fn new(alloc: Global) -> Skewed {
         Skewed {
             honest: Honest::new(alloc),
+            one_more: one_more(alloc),
         }
     }
 }
 
-/// The frame of one more update.
-fn one_more() -> Message {
+/// The frame of one more update. It is made in a call of its own, so that the stack has it no
+/// longer than that.
+#[inline(never)]
+fn one_more(alloc: Global) -> Option<Box<Message>> {
     let mut updates = ArrayVec::new();
     updates.push(Update {
         side: Side::First,
         item: 0,
         delta: 1,
     });
-    Message::Updates(updates)
+    Box::new(alloc, Message::Updates(updates)).ok()
 }
 
 impl Helper for Skewed {
@@ -45,8 +51,10 @@ impl Helper for Skewed {
     ghost honest_state = { λ _. None };
 
     fn hear(&mut self, message: &Message) {
-        if let Message::EndStream = message {
-            self.honest.slip_in(&one_more());
+        if let Message::EndStream = message
+            && let Some(one_more) = &self.one_more
+        {
+            self.honest.slip_in(one_more);
         }
         self.honest.hear(message);
     }
