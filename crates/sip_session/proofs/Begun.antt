@@ -4,6 +4,7 @@ use Rattle.std.proofs.Math.Nat.{mul-pos, mul_comm}
 use Rattle.std.specs.Prelude.{IfErr, IsTrue}
 use Rattle.sip_ports.specs.Ports.{Rose}
 use Rattle.sip_ports.proofs.FaultLemmas.{Rose-positive}
+use Rattle.sip_vector.specs.Limits.{most_depth}
 use Rattle.sip_verifier.specs.declared.session.SessionStart.{SessionStart}
 use Rattle.sip_verifier.specs.declared.session.SessionStart.TheVariants as starts
 use Rattle.sip_verifier.specs.declared.status.Port.TheVariants as ports
@@ -21,6 +22,7 @@ use Rattle.sip_verifier.specs.Talks.{stream_sent}
 use Rattle.sip_verifier.specs.Tasks.{CanBeAsked, CanBeDone, version_of}
 use Rattle.sip_verifier.specs.Widths.{is_wide_seat}
 use Rattle.sip_wire.specs.declared.version.Version.{Version}
+use Rattle.sip_wire.specs.Table.{most_queries}
 use Rattle.sip_verifier.proofs.KeptHead.{following_gathers}
 use Rattle.sip_verifier.proofs.RunPromises.{gathering_listed}
 use Rattle.sip_session.specs.inside.Beginning.{Begins, GathersAll, IsHeard, by_query, task_of_seats}
@@ -49,6 +51,16 @@ pub queries_few : (helpers queries most : ℕ) → 0 < helpers → helpers * que
     → queries ≤ most
 queries_few helpers queries most some few =
     helpers_few queries helpers most some (omega (arith, few, mul_comm helpers queries))
+
+-- the levels of a panel's task, and its queries, are in their bounds
+pub task_bounds : (helpers : ℕ) (task : Task) (levels : ℕ) → levels ≡ task.depth → 1 ≤ levels
+    → levels ≤ most_depth → 0 < helpers → helpers * length task.queries.items ≤ most_queries
+    → (1 ≤ task.depth) × (task.depth ≤ most_depth) × (length task.queries.items ≤ most_queries)
+task_bounds helpers task levels is deep most some few = (
+  omega (arith, is, deep),
+  omega (arith, is, most),
+  queries_few helpers (length task.queries.items) most_queries some few,
+)
 
 -- ---- statuses
 

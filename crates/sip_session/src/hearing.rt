@@ -1,7 +1,7 @@
 //! A stream, sent to each helper of a panel.
 
 ghost use Rattle.std.specs.Prelude.{◌≡◌, ◌≢◌, ◌<◌, ◌≤◌, ◌^◌, ◌++◌, ◌∷◌, ℕ, List, [], All, length};
-ghost use Rattle.std.specs.Prelude.{map, pos, IfOk, OnOk, IsSome, IsTrue, Err, Some};
+ghost use Rattle.std.specs.Prelude.{pos, IfOk, OnOk, IsSome, IsTrue, Err, Some};
 ghost use Rattle.sip_ports.specs.Ports.{Lasts};
 ghost use Rattle.sip_vector.specs.declared.query.Query.{Query as AnyQuery};
 ghost use Rattle.sip_vector.specs.declared.update.Side.{Side as AnySide};
@@ -9,7 +9,7 @@ ghost use Rattle.sip_vector.specs.declared.update.Update.{Update as AnyUpdate};
 ghost use Rattle.sip_wire.specs.declared.message.Message.TheVariants as messages;
 ghost use Rattle.sip_wire.specs.Spelling.{fits, spelling};
 ghost use Rattle.sip_wire.specs.Table.{most_rows};
-ghost use Rattle.sip_wire.specs.Versions.{index_width};
+ghost use Rattle.sip_wire.specs.Versions.{index_width, number_of};
 ghost use Rattle.sip_verifier.specs.Feeding.{due_at_end, due_with, waiting_with};
 ghost use Rattle.sip_verifier.specs.Gathering.{AreOf};
 ghost use Rattle.sip_verifier.specs.inside.Passing.{taken_with};
@@ -18,7 +18,7 @@ ghost use Rattle.sip_verifier.specs.QuerySeats.{HaveRoom};
 ghost use Rattle.sip_verifier.specs.Seats.{AreSeats};
 ghost use Rattle.sip_verifier.specs.Statuses.{Stops, stops_following};
 ghost use Rattle.sip_session.specs.inside.Hearing.{Each, HearsStream, Says, SaysAll};
-ghost use Rattle.sip_session.specs.Links.{EachLink};
+ghost use Rattle.sip_session.specs.Links.{EachLink, talks_of};
 
 use sip_duel::HelperLink;
 use sip_ports::{PortStop, Sink, Source};
@@ -59,8 +59,8 @@ pub(crate) fn say_all(
     version: Version,
 ) -> Result<(), PortStop>
     requires { IsTrue (fits version message.now) }
-    ensures talks { SaysAll (map (λ l. l.kept.talk.items) links.old)
-        (map (λ l. l.kept.talk.items) links.new) (spelling version message.now) result }
+    ensures talks { SaysAll (talks_of links.old)
+        (talks_of links.new) (spelling version message.now) result }
     ensures count { length links.new ≡ length links.old }
     ensures sure { EachLink (λ _ l m. ⟦<HelperLink as Sink>⟧.is_sure l
         → ⟦<HelperLink as Sink>⟧.is_sure m) links.old links.new }
@@ -72,11 +72,44 @@ pub(crate) fn say_all(
     Ok(())
 }
 
+/// Opens the talk with each helper. The opening is made in a call of its own, since a message is as
+/// large as the longest frame's rows: the stack has it no longer than that.
+#[inline(never)]
+fn open_all(links: &mut [HelperLink], depth: u8, version: Version) -> Result<(), PortStop>
+    requires { IsTrue (fits version (messages.Open (number_of version) depth)) }
+    ensures talks { SaysAll (talks_of links.old) (talks_of links.new)
+        (spelling version (messages.Open (number_of version) depth)) result }
+    ensures count { length links.new ≡ length links.old }
+    ensures sure { EachLink (λ _ l m. ⟦<HelperLink as Sink>⟧.is_sure l
+        → ⟦<HelperLink as Sink>⟧.is_sure m) links.old links.new }
+    ensures cause { result ≢ Err PortStop.Failed }
+{
+    let opening = Message::Open {
+        version: version.number(),
+        depth,
+    };
+    say_all(links, &opening, version)
+}
+
+/// Sends the end of the stream to each helper, which is made in a call of its own too.
+#[inline(never)]
+fn end_all(links: &mut [HelperLink], version: Version) -> Result<(), PortStop>
+    ensures talks { SaysAll (talks_of links.old) (talks_of links.new)
+        (spelling version messages.EndStream) result }
+    ensures count { length links.new ≡ length links.old }
+    ensures sure { EachLink (λ _ l m. ⟦<HelperLink as Sink>⟧.is_sure l
+        → ⟦<HelperLink as Sink>⟧.is_sure m) links.old links.new }
+    ensures cause { result ≢ Err PortStop.Failed }
+{
+    say_all(links, &Message::EndStream, version)
+}
+
 /// Sends the updates that wait as a frame to each helper.
+#[inline(never)]
 fn copy_all(links: &mut [HelperLink], feed: &Feed) -> Result<(), PortStop>
     requires { 0 < length feed.now.waiting }
-    ensures talks { SaysAll (map (λ l. l.kept.talk.items) links.old)
-        (map (λ l. l.kept.talk.items) links.new)
+    ensures talks { SaysAll (talks_of links.old)
+        (talks_of links.new)
         (spelling feed.now.version (messages.Updates (record { items = feed.now.waiting })))
         result }
     ensures count { length links.new ≡ length links.old }
@@ -105,8 +138,8 @@ fn pass_on_all(
     requires items { All (λ u. u.item < 2 ^ seats.old.depth) feed.old.waiting }
     requires room { (side : AnySide)
         → HaveRoom seats.old.seats (feed.old.waiting ++ update.now ∷ []) side }
-    ensures talks { SaysAll (map (λ l. l.kept.talk.items) links.old)
-        (map (λ l. l.kept.talk.items) links.new)
+    ensures talks { SaysAll (talks_of links.old)
+        (talks_of links.new)
         (due_with feed.old.version feed.old.waiting update.now) result }
     ensures count { length links.new ≡ length links.old }
     ensures sure { EachLink (λ _ l m. ⟦<HelperLink as Sink>⟧.is_sure l
@@ -138,21 +171,22 @@ fn pass_on_all(
 fn finish_all(links: &mut [HelperLink], feed: &Feed, version: Version) -> Result<(), PortStop>
     requires version { version ≡ feed.now.version }
     requires few { length feed.now.waiting < most_rows }
-    ensures talks { SaysAll (map (λ l. l.kept.talk.items) links.old)
-        (map (λ l. l.kept.talk.items) links.new) (due_at_end version feed.now.waiting) result }
+    ensures talks { SaysAll (talks_of links.old)
+        (talks_of links.new) (due_at_end version feed.now.waiting) result }
     ensures count { length links.new ≡ length links.old }
     ensures sure { EachLink (λ _ l m. ⟦<HelperLink as Sink>⟧.is_sure l
         → ⟦<HelperLink as Sink>⟧.is_sure m) links.old links.new }
     ensures cause { result ≢ Err PortStop.Failed }
 {
     if feed.waiting().is_empty() {
-        return say_all(links, &Message::EndStream, version);
+        return end_all(links, version);
     }
     copy_all(links, feed)?;
-    say_all(links, &Message::EndStream, version)
+    end_all(links, version)
 }
 
 /// Says farewell to the helpers that are left: so many were dropped.
+#[inline(never)]
 pub(crate) fn say_bye(
     links: &mut [HelperLink],
     gone: usize,
@@ -161,7 +195,7 @@ pub(crate) fn say_bye(
     requires { gone ≤ length links.old }
     ensures talks { Each (λ place o n. (place < gone → n ≡ o)
         × (gone ≤ place → Says o n (spelling version messages.Bye) result))
-        (map (λ l. l.kept.talk.items) links.old) (map (λ l. l.kept.talk.items) links.new) }
+        (talks_of links.old) (talks_of links.new) }
     ensures count { length links.new ≡ length links.old }
     ensures sure { EachLink (λ _ l m. ⟦<HelperLink as Sink>⟧.is_sure l
         → ⟦<HelperLink as Sink>⟧.is_sure m) links.old links.new }
@@ -191,7 +225,7 @@ pub(crate) fn follow_all<A: Source>(
     ensures hears { (bytes : List ℕ) (at_blocks : List (List ℕ)) → A.left first.old ≡ Some bytes
         → AreSeats task.now.depth task.now.queries.items at_blocks [] seats.old
         → Each (λ _ o n. HearsStream task.now bytes at_blocks (A.left first.new) seats.new result o
-        n) (map (λ l. l.kept.talk.items) links.old) (map (λ l. l.kept.talk.items) links.new) }
+        n) (talks_of links.old) (talks_of links.new) }
     ensures count { length links.new ≡ length links.old }
     ensures sure { EachLink (λ _ l m. ⟦<HelperLink as Sink>⟧.is_sure l
         → ⟦<HelperLink as Sink>⟧.is_sure m) links.old links.new }
@@ -204,17 +238,14 @@ pub(crate) fn follow_all<A: Source>(
     let levels = task.depth.get();
     prove!(levels <= Depth::MOST);
     let version = task.version();
-    let mut feed = Feed::new(version);
-    let opening = Message::Open {
-        version: version.number(),
-        depth: levels,
-    };
-    on_link(say_all(links, &opening, version))?;
+    let mut place = None;
+    let feed = Feed::new_in(&mut place, version);
+    on_link(open_all(links, levels, version))?;
     let mut reader = Reader::new(task.depth, task.form);
     while let Some(update) = on_stream(reader.next(first))? {
-        on_link(pass_on_all(&update, &mut feed, seats, links))?;
+        on_link(pass_on_all(&update, feed, seats, links))?;
         feed.take_held(&mut reader, first);
     }
     seats.update_all(feed.waiting());
-    on_link(finish_all(links, &feed, version))
+    on_link(finish_all(links, feed, version))
 }

@@ -1,7 +1,7 @@
 //! The queries of a panel, each asked of one helper after another.
 
 ghost use Rattle.std.specs.Prelude.{◌≡◌, ◌≢◌, ◌+◌, ◌*◌, ◌-◌, ◌<◌, ◌≤◌, ℕ, List, All, false, length};
-ghost use Rattle.std.specs.Prelude.{drop, map, Err, IfOk, None, Ok, Option, Some};
+ghost use Rattle.std.specs.Prelude.{drop, Err, IfOk, None, Ok, Option, Some};
 ghost use Rattle.sip_ports.specs.Ports.{Lasts};
 ghost use Rattle.sip_ports.specs.declared.port.TalkEvent.{TalkEvent as AnyEvent};
 ghost use Rattle.sip_vector.specs.declared.query.Query.{Query as AnyQuery};
@@ -14,7 +14,7 @@ ghost use Rattle.sip_verifier.specs.runs.Askers.{IsFirst};
 ghost use Rattle.sip_verifier.specs.Sittings.{asks_left, remaining_of};
 ghost use Rattle.sip_duel.specs.Story.{IsHonestTalk};
 ghost use Rattle.sip_session.specs.inside.Hearing.{AllTalks};
-ghost use Rattle.sip_session.specs.Links.{EachLink};
+ghost use Rattle.sip_session.specs.Links.{EachLink, talks_of};
 ghost use Rattle.sip_session.specs.inside.Trying.{AsksOn, Leads, Trails, TrailsTo, Tries, turn_at};
 
 use sip_duel::HelperLink;
@@ -123,10 +123,10 @@ fn ask_at<K: Sink>(
         ≡ drop (at.asked * length links.old + at.gone) asks
         → length old ≡ length links.old
         → TrailsTo session.old.version session.old.depth stream (length links.old) queries asks old
-        (map (λ l. l.kept.talk.items) links.old) blank (K.talk report.old)
+        (talks_of links.old) blank (K.talk report.old)
         (turn_at at.gone at.asked)
         → Leads session.old.version session.old.depth stream (length links.old) queries asks old
-        (map (λ l. l.kept.talk.items) links.new) blank (K.talk report.new) result }
+        (talks_of links.new) blank (K.talk report.new) result }
     ensures count { length links.new ≡ length links.old }
     ensures next { asks_left session.new.left ≡ drop (length session.old.left
         - ((queries - at.asked) * length links.old - at.gone) + 1) (asks_left session.old.left) }
@@ -199,8 +199,8 @@ pub(crate) fn ask_all<K: Sink>(
     ensures trails { (stream : List AnyUpdate)
         → All (StandsFor session.old.depth stream) session.old.left
         → Trails session.old.version session.old.depth stream (length links.old) queries
-        (asks_left session.old.left) (map (λ l. l.kept.talk.items) links.old)
-        (map (λ l. l.kept.talk.items) links.new) (K.talk report.old) (K.talk report.new) result }
+        (asks_left session.old.left) (talks_of links.old)
+        (talks_of links.new) (K.talk report.old) (K.talk report.new) result }
     ensures gone { IfOk result (λ gone. gone < length links.old) }
     ensures count { length links.new ≡ length links.old }
     ensures keeps { AsksOn session.old session.new (K.faults report.old) (K.faults report.new)

@@ -12,7 +12,7 @@ ghost use Rattle.sip_verifier.specs.Snapshots.{counts};
 ghost use Rattle.sip_verifier.specs.Statuses.{FaultClause, IsListed, Stops, stops_gathering};
 ghost use Rattle.sip_verifier.specs.Tasks.{CanBeDone};
 ghost use Rattle.sip_session.specs.inside.Beginning.{Begins, GathersAll, by_query, task_of_seats};
-ghost use Rattle.sip_session.specs.Links.{EachLink};
+ghost use Rattle.sip_session.specs.Links.{EachLink, talks_of};
 ghost use Rattle.sip_session.specs.PanelClause.{PanelRunClause};
 ghost use Rattle.sip_session.specs.PanelExchanges.{panel_snapshot};
 ghost use Rattle.sip_session.specs.Panels.{seat_queries};
@@ -72,7 +72,7 @@ fn gather_all<A: Source, B: Source>(
     ensures gathers { (bytes seed : List ℕ) → A.left first.old ≡ Some bytes
         → B.left second.old ≡ Some seed
         → GathersAll wide.now bytes seed (A.left first.new)
-        (map (λ l. l.kept.talk.items) links.old) (map (λ l. l.kept.talk.items) links.new)
+        (talks_of links.old) (talks_of links.new)
         (left gathered.new result) }
     ensures count { length links.new ≡ length links.old }
     ensures sure { EachLink (λ _ l m. ⟦<HelperLink as Sink>⟧.is_sure l
@@ -94,7 +94,9 @@ fn gather_all<A: Source, B: Source>(
     Ok(())
 }
 
-/// The session of all seats, once the stream was sent to each helper.
+/// The session of all seats, once the stream was sent to each helper. It is a call of its own: the
+/// place of the seats is on the stack no longer than that.
+#[inline(never)]
 fn begin<A: Source, B: Source>(
     alloc: Global,
     wide: &Task,
@@ -109,10 +111,10 @@ fn begin<A: Source, B: Source>(
         → B.left second.old ≡ Some seed
         → MatchResult result
         (λ session. Begins wide.now bytes seed (A.left first.new)
-        (map (λ l. l.kept.talk.items) links.old) (map (λ l. l.kept.talk.items) links.new)
+        (talks_of links.old) (talks_of links.new)
         (length links.old) (Ok session.value))
         (λ status. Begins wide.now bytes seed (A.left first.new)
-        (map (λ l. l.kept.talk.items) links.old) (map (λ l. l.kept.talk.items) links.new)
+        (talks_of links.old) (talks_of links.new)
         (length links.old) (Err status)) }
     ensures left { IfOk result (λ session.
         length session.value.left ≡ length wide.now.queries.items) }
@@ -153,10 +155,10 @@ fn panel_steps<A: Source, B: Source, K: Sink>(
     requires new { All (λ l. l.kept.talk.items ≡ []) links.old }
     ensures keeps { PanelRunClause (length links.old) task.now
         (panel_snapshot (A.left first.old) (A.faults first.old) (B.left second.old)
-        (B.faults second.old) (map (λ l. l.kept.talk.items) links.old) (K.talk report.old)
+        (B.faults second.old) (talks_of links.old) (K.talk report.old)
         (K.faults report.old))
         (panel_snapshot (A.left first.new) (A.faults first.new) (B.left second.new)
-        (B.faults second.new) (map (λ l. l.kept.talk.items) links.new) (K.talk report.new)
+        (B.faults second.new) (talks_of links.new) (K.talk report.new)
         (K.faults report.new))
         (status_of result) }
     ensures count { length links.new ≡ length links.old }
@@ -176,36 +178,11 @@ fn panel_steps<A: Source, B: Source, K: Sink>(
     on_link(say_bye(links, gone, task.version()))
 }
 
-/// The steps, with the status that they end with.
-fn run<A: Source, B: Source, K: Sink>(
-    alloc: Global,
-    task: &Task,
-    first: &mut A,
-    second: &mut B,
-    links: &mut [HelperLink],
-    report: &mut K,
-) -> Status
-    requires done { CanBeDone task.now }
-    requires some { 0 < length links.old }
-    requires few { length links.old * length task.now.queries.items ≤ most_queries }
-    requires new { All (λ l. l.kept.talk.items ≡ []) links.old }
-    ensures keeps { PanelRunClause (length links.old) task.now
-        (panel_snapshot (A.left first.old) (A.faults first.old) (B.left second.old)
-        (B.faults second.old) (map (λ l. l.kept.talk.items) links.old) (K.talk report.old)
-        (K.faults report.old))
-        (panel_snapshot (A.left first.new) (A.faults first.new) (B.left second.new)
-        (B.faults second.new) (map (λ l. l.kept.talk.items) links.new) (K.talk report.new)
-        (K.faults report.new))
-        result }
-    ensures count { length links.new ≡ length links.old }
-    ensures honest { EachLink (λ _ l m. ⟦<HelperLink as Sink>⟧.is_sure l
-        → IsHonestTalk m.kept.talk.items) links.old links.new }
-    ensures first { Lasts A.faults A.wants A.is_sure first.old first.new }
-    ensures seed { TakesAtMost 32 (B.left second.old) (B.left second.new) }
-    ensures second { Lasts B.faults B.wants B.is_sure second.old second.new }
-    ensures report { Lasts K.faults K.wants K.is_sure report.old report.new }
+/// The status that steps end with.
+fn status_of(steps: Result<(), Status>) -> Status
+    ensures { result ≡ status_of steps }
 {
-    match panel_steps(alloc, task, first, second, links, report) {
+    match steps {
         Ok(()) => Status::Accepted,
         Err(status) => status,
     }
@@ -243,10 +220,10 @@ pub fn panel<A: Source, B: Source, K: Sink>(
     requires new { All (λ l. l.kept.talk.items ≡ []) links.old.items }
     ensures keeps { PanelRunClause (length links.old.items) task.now
         (panel_snapshot (A.left first.old) (A.faults first.old) (B.left second.old)
-        (B.faults second.old) (map (λ l. l.kept.talk.items) links.old.items) (K.talk report.old)
+        (B.faults second.old) (talks_of links.old.items) (K.talk report.old)
         (K.faults report.old))
         (panel_snapshot (A.left first.new) (A.faults first.new) (B.left second.new)
-        (B.faults second.new) (map (λ l. l.kept.talk.items) links.new.items) (K.talk report.new)
+        (B.faults second.new) (talks_of links.new.items) (K.talk report.new)
         (K.faults report.new))
         result }
     ensures peer { result ≢ Status.PeerFault }
@@ -260,7 +237,7 @@ pub fn panel<A: Source, B: Source, K: Sink>(
     ensures second { Lasts B.faults B.wants B.is_sure second.old second.new }
     ensures report { Lasts K.faults K.wants K.is_sure report.old report.new }
 {
-    let status = run(alloc, task, first, second, links.as_mut_slice(), report);
+    let steps = panel_steps(alloc, task, first, second, links.as_mut_slice(), report);
     let_all_go(links.as_mut_slice());
-    status
+    status_of(steps)
 }

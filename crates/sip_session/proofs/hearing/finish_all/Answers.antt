@@ -1,29 +1,23 @@
 -- What went out is a frame of those that waited, where there were any, and the end.
-use Rattle.std.proofs.Common.{◌≡◌, ◌<◌, ◌≤◌, [], ◌∙◌, length, map, Err, sym, ap, arith, rules}
+use Rattle.std.proofs.Common.{◌≡◌, ◌<◌, ◌≤◌, [], ◌∙◌, length, Err, sym, ap, arith, rules}
 use Rattle.std.proofs.lemmas.List.{nil_from_length}
 use Rattle.std.proofs.lemmas.Result.{err_from_is_err_and}
 use Rattle.sip_wire.specs.declared.message.Message.TheVariants as messages
 use Rattle.sip_wire.specs.Spelling.{spelling}
 use Rattle.sip_verifier.specs.Feeding.{due_at_end}
 use Rattle.sip_verifier.proofs.DueFrames.{due-none, due-some}
-use Rattle.sip_verifier.proofs.FramesFit.{end_fits}
+use Rattle.sip_session.specs.Links.{talks_of}
 use Rattle.sip_session.proofs.Heard.{all_same, all_short, all_then}
 use Rattle.sip_session.proofs.LinkLemmas.{links_then}
 use Rattle.sip_session.proofs.Places.{told_length}
 use Rattle.sip_session.proofs.hearing.finish_all.Goals as goal
-
-pub say_all-requires : goal.say_all-requires
-say_all-requires g c = end_fits c.args.version
-
-pub say_all-requires-2 : goal.say_all-requires-2
-say_all-requires-2 g c = end_fits c.args.version
 
 pub returns-then-is_empty-clause-talks : goal.returns-then-is_empty-clause-talks
 returns-then-is_empty-clause-talks g c =
     let waiting = c.args.feed.now.waiting in
     let none : waiting ≡ [] = nil_from_length waiting (search rules) in
     let due = ap (due_at_end c.args.version) none ∙ due-none c.args.version in
-    all_same _ _ _ _ c.say_all.result (sym due) c.say_all.ensures.talks
+    all_same _ _ _ _ c.end_all.result (sym due) c.end_all.ensures.talks
 
 pub returns-in_err-copy_all-clause-talks : goal.returns-in_err-copy_all-clause-talks
 returns-in_err-copy_all-clause-talks g c =
@@ -42,19 +36,19 @@ returns-clause-talks g c =
     let some : 0 < length waiting = search rules in
     let few : length waiting ≤ 512 = omega (arith, c.requires.few) in
     let said = rw (c.in_ok-copy_all.was, sym c.requires.version) at c.copy_all.ensures.talks in
-    all_same _ _ _ _ c.say_all-2.result (sym (due-some c.args.version waiting some few))
-    (all_then _ (map (λ l. l.kept.talk.items) c.copy_all.new.links) _ _ _ c.say_all-2.result
+    all_same _ _ _ _ c.end_all-2.result (sym (due-some c.args.version waiting some few))
+    (all_then _ (talks_of c.copy_all.new.links) _ _ _ c.end_all-2.result
     (told_length (λ l. l.kept.talk.items) c.args.links.now c.copy_all.new.links
-    c.copy_all.ensures.count) said c.say_all-2.ensures.talks)
+    c.copy_all.ensures.count) said c.end_all-2.ensures.talks)
 
 pub returns-clause-sure : goal.returns-clause-sure
 returns-clause-sure g c =
-    links_then _ _ _ c.args.links.now c.copy_all.new.links c.say_all-2.new.links
-    c.say_all-2.ensures.count (λ place l m n p q k. q (p k)) c.copy_all.ensures.sure
-    c.say_all-2.ensures.sure
+    links_then _ _ _ c.args.links.now c.copy_all.new.links c.end_all-2.new.links
+    c.end_all-2.ensures.count (λ place l m n p q k. q (p k)) c.copy_all.ensures.sure
+    c.end_all-2.ensures.sure
 
 pub returns-then-is_empty-clause-sure : goal.returns-then-is_empty-clause-sure
-returns-then-is_empty-clause-sure g c = c.say_all.ensures.sure
+returns-then-is_empty-clause-sure g c = c.end_all.ensures.sure
 
 pub returns-in_err-copy_all-clause-sure : goal.returns-in_err-copy_all-clause-sure
 returns-in_err-copy_all-clause-sure g c = c.copy_all.ensures.sure

@@ -21,15 +21,15 @@ use Rattle.sip_session.proofs.LinkLemmas.{links_then}
 use Rattle.sip_session.proofs.Places.{within}
 use Rattle.sip_session.proofs.hearing.follow_all.Goals as goal
 
-pub say_all-requires : goal.say_all-requires
-say_all-requires g c =
+pub open_all-requires : goal.open_all-requires
+open_all-requires g c =
     let task = c.args.task.now in
     let most : task.depth ≤ most_depth =
     omega (arith, c.get-levels.ensures.same, c.get-levels.ensures.most) in
     let shallow = subst (λ (v : Version). task.depth ≤ deepest v) (sym c.version-version.ensures)
     (depth-shallow task.depth task.queries.items most) in
-    rw c.number.ensures (open_fits c.version-version.result c.get-levels.result (omega arith)
-    (omega (arith, shallow, c.get-levels.ensures.same)))
+    open_fits c.version-version.result c.get-levels.result (omega arith)
+    (omega (arith, shallow, c.get-levels.ensures.same))
 
 pub returns-in_err-on_link-clause-hears : goal.returns-in_err-on_link-clause-hears
 returns-in_err-on_link-clause-hears g c = λ bytes at_blocks all has.
@@ -37,36 +37,27 @@ returns-in_err-on_link-clause-hears g c = λ bytes at_blocks all has.
     let p = err_from_is_err_and c.from_residual.result c.from_residual.ensures.1 in
     let (port, stop, is) = c.in_err-on_link.ensures in
     let deep : c.get-levels.result ≡ task.depth = omega (arith, c.get-levels.ensures.same) in
-    let said = rw (
-      stop,
-      c.number.ensures,
-      c.version-version.ensures,
-      deep,
-    ) at c.say_all.ensures.talks in
+    let said = rw (stop, c.version-version.ensures, deep) at c.open_all.ensures.talks in
     rw (p.1, p.2, is) (λ k less. link_stops task bytes at_blocks (g.A.Source.left c.args.first.now)
-    c.args.seats.now _ _ c.say_all.result port stop c.say_all.ensures.cause
+    c.args.seats.now _ _ c.open_all.result port stop c.open_all.ensures.cause
     (part_first task bytes _ _ at_blocks has _ port (said k less)))
 
 pub loop-update-init : goal.loop-update-init
 loop-update-init g c =
     let task = c.args.task.now in
     let deep : c.get-levels.result ≡ task.depth = omega (arith, c.get-levels.ensures.same) in
-    let none : c.new-feed.result.waiting ≡ [] = ap (λ (w : Waiting). w.waiting) c.new-feed.ensures
+    let none : c.new_in-feed.result.now.waiting ≡ [] = ap (λ (w : Waiting). w.waiting) c.new_in-feed.ensures
     in
-    let few : length c.new-feed.result.waiting < most_rows = omega (arith, ap length none) in
+    let few : length c.new_in-feed.result.now.waiting < most_rows = omega (arith, ap length none) in
     record {
       underway = λ bytes at_blocks all has.
-          let said = rw (
-            c.in_ok-on_link.ensures,
-            c.number.ensures,
-            c.version-version.ensures,
-            deep,
-          ) at c.say_all.ensures.talks in
-          λ k less. heard_first task bytes _ _ at_blocks has _ _ _ c.new-feed.result.waiting all
+          let said = rw (c.in_ok-on_link.ensures, c.version-version.ensures, deep)
+          at c.open_all.ensures.talks in
+          λ k less. heard_first task bytes _ _ at_blocks has _ _ _ c.new_in-feed.result.now.waiting all
           c.new-reader.ensures.after none (said k less);
-      count = c.say_all.ensures.count;
-      sure = c.say_all.ensures.sure;
-      version = ap (λ (w : Waiting). w.version) c.new-feed.ensures ∙ c.version-version.ensures;
+      count = c.open_all.ensures.count;
+      sure = c.open_all.ensures.sure;
+      version = ap (λ (w : Waiting). w.version) c.new_in-feed.ensures ∙ c.version-version.ensures;
       few = few;
       items = subst (All (λ (u : Update). u.item < 2 ^ task.depth)) (sym none)
           (All-nil (λ (u : Update). u.item < 2 ^ task.depth));
@@ -263,7 +254,7 @@ pub returns-in_err-on_link-clause-fault : goal.returns-in_err-on_link-clause-fau
 returns-in_err-on_link-clause-fault g c =
     let p = err_from_is_err_and c.from_residual.result c.from_residual.ensures.1 in
     let (port, stop, is) = c.in_err-on_link.ensures in
-    rw (p.1, p.2, is) (link_listed _ _ c.say_all.result port stop c.say_all.ensures.cause)
+    rw (p.1, p.2, is) (link_listed _ _ c.open_all.result port stop c.open_all.ensures.cause)
 
 pub returns-in_err-on_link-2-clause-fault : goal.returns-in_err-on_link-2-clause-fault
 returns-in_err-on_link-2-clause-fault g c =
@@ -289,7 +280,7 @@ returns-clause-sure g c =
     c.finish_all.ensures.sure
 
 pub returns-in_err-on_link-clause-sure : goal.returns-in_err-on_link-clause-sure
-returns-in_err-on_link-clause-sure g c = c.say_all.ensures.sure
+returns-in_err-on_link-clause-sure g c = c.open_all.ensures.sure
 
 pub returns-in_err-update-clause-sure : goal.returns-in_err-update-clause-sure
 returns-in_err-update-clause-sure g c = c.loop-update.invariant.sure

@@ -1,6 +1,6 @@
 -- The records so far were legal. All but those that wait are sent to each helper, and the seats
 -- stand for these.
-use Rattle.std.proofs.Common.{◌≡◌, ◌<◌, ◌^◌, ℕ, List, [], length, map, All, Some, false}
+use Rattle.std.proofs.Common.{◌≡◌, ◌<◌, ◌^◌, ℕ, List, [], length, All, Some, false}
 use Rattle.std.specs.Prelude.{IsSome}
 use Rattle.std.specs.Option.{option_and_then}
 use Rattle.sip_ports.specs.Ports.{Lasts}
@@ -12,7 +12,7 @@ use Rattle.sip_verifier.specs.Seats.{AreSeats}
 use Rattle.sip_verifier.proofs.Gathered.{IsFollowed, IsUnderway}
 use Rattle.sip_session.specs.inside.Hearing.{Each}
 use Rattle.sip_duel.specs.Story.{Keeps}
-use Rattle.sip_session.specs.Links.{EachLink}
+use Rattle.sip_session.specs.Links.{EachLink, talks_of}
 use Rattle.sip_session.proofs.hearing.follow_all.Given as goal
 
 abbrev pub invariant-loop-update : goal.invariant-loop-update
@@ -20,8 +20,8 @@ invariant-loop-update g l = record {
   underway : (bytes : List ℕ) (at_blocks : List (List ℕ)) → g.A.Source.left l.fn.first ≡ Some bytes
       → AreSeats l.fn.task.depth l.fn.task.queries.items at_blocks [] l.fn.seats
       → Each (λ _ o n. IsUnderway l.fn.task bytes at_blocks (g.A.Source.left l.first) (Some o)
-      (Some n) l.reader l.seats l.feed.waiting) (map (λ x. x.kept.talk.items) l.fn.links)
-      (map (λ x. x.kept.talk.items) l.links);
+      (Some n) l.reader l.seats l.feed.waiting) (talks_of l.fn.links)
+      (talks_of l.links);
   count : length l.links ≡ length l.fn.links;
   sure : EachLink (λ _ a b. Keeps (option_and_then
       (λ x. (goal.Helper-dyn g (x.vtable, x.value)).honest_state x.value) a.helper) a.kept

@@ -1,10 +1,11 @@
 -- The seats took the frame's updates where there was one, and each helper heard it.
-use Rattle.std.proofs.Common.{List, ◌≡◌, ◌≢◌, length, map, Err, Ok, [], ◌∷◌, ◌++◌, ◌∙◌, ap, sym, subst, rules}
+use Rattle.std.proofs.Common.{List, ◌≡◌, ◌≢◌, length, Err, Ok, [], ◌∷◌, ◌++◌, ◌∙◌, ap, sym, subst, rules}
 use Rattle.std.proofs.lemmas.Result.{err_from_is_err_and}
 use Rattle.sip_vector.specs.declared.update.Side.{Side}
 use Rattle.sip_vector.specs.declared.update.Update.{Update}
 use Rattle.sip_verifier.specs.QuerySeats.{HaveRoom}
 use Rattle.sip_verifier.specs.Seats.{AreSeats}
+use Rattle.sip_session.specs.Links.{talks_of}
 use Rattle.sip_session.proofs.Heard.{all_nothing, all_same, due_full, due_nothing, taken_full}
 use Rattle.sip_session.proofs.LinkLemmas.{links_stay}
 use Rattle.sip_session.proofs.hearing.pass_on_all.Goals as goal
@@ -14,7 +15,7 @@ returns-then-not-is_full-clause-talks g c =
     let waiting = c.args.feed.now.waiting in
     let u = c.args.update.now in
     let other : length c.push.new.self.waiting ≢ 512 = search rules in
-    let talks = map (λ l. l.kept.talk.items) c.args.links.now in
+    let talks = talks_of c.args.links.now in
     all_same talks talks [] _ (Ok tt)
     (sym (due_nothing waiting u c.args.feed.now.version
     (λ e. other (ap length c.push.ensures.waiting ∙ e)))) (all_nothing talks)
@@ -56,7 +57,7 @@ returns-clause-talks g c =
       c.push.ensures.version,
       c.push.ensures.waiting,
     ) at c.copy_all.ensures.talks in
-    all_same _ (map (λ l. l.kept.talk.items) c.copy_all.new.links) _ _ (Ok tt) (sym due) said
+    all_same _ (talks_of c.copy_all.new.links) _ _ (Ok tt) (sym due) said
 
 pub returns-clause-stands : goal.returns-clause-stands
 returns-clause-stands g c = λ depth queries blocks stream are.

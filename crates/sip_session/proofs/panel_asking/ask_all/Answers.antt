@@ -1,5 +1,5 @@
 -- Each attempt leads on, until all queries were answered or the panel halts.
-use Rattle.std.proofs.Common.{◌≡◌, ◌<◌, ◌+◌, ◌-◌, ◌*◌, ◌≤◌, ℕ, None, Ok, Err, List, length, map, drop, refl, ap, sym, ◌∙◌, subst, arith, rules, drop-drop}
+use Rattle.std.proofs.Common.{◌≡◌, ◌<◌, ◌+◌, ◌-◌, ◌*◌, ◌≤◌, ℕ, None, Ok, Err, List, length, drop, refl, ap, sym, ◌∙◌, subst, arith, rules, drop-drop}
 use Rattle.std.proofs.lemmas.List.{length-map}
 use Rattle.std.proofs.lemmas.Result.{err_from_is_err_and}
 use Rattle.sip_duel.specs.Story.{IsHonestTalk}
@@ -7,6 +7,7 @@ use Rattle.sip_duel.proofs.KeepsLemmas.{kept_is_honest}
 use Rattle.sip_vector.specs.declared.query.Query.{Query}
 use Rattle.sip_wire.specs.Table.{most_queries}
 use Rattle.sip_verifier.specs.Sittings.{asks_left}
+use Rattle.sip_session.specs.Links.{talks_of}
 use Rattle.sip_session.specs.inside.Trying.{TrailsTo, turn_at}
 use Rattle.sip_session.proofs.Asked.{further, led_on, left_enough, next_asks, passed_sum}
 use Rattle.sip_session.proofs.Attempts.{no_attempt}
@@ -65,8 +66,8 @@ loop-at-preserved g c =
     let keeps = rw c.in_ok-at.was at c.ask_at.ensures.keeps in
     record {
       trail = λ stream stand.
-          led_on all.version c.loop-at.session.version all.depth c.loop-at.session.depth stream h (length c.loop-at.links) c.args.queries (asks_left all.left) (map (λ l. l.kept.talk.items) c.args.links.now) (map (λ l. l.kept.talk.items) c.loop-at.links) (map (λ l. l.kept.talk.items) c.ask_at.new.links) (g.K.Sink.talk c.args.report.now) (g.K.Sink.talk c.loop-at.report) (g.K.Sink.talk c.ask_at.new.report) at.gone at.asked (Ok c.in_ok-at.at) i.version i.depth i.count (i.trail stream stand)
-          (rw c.in_ok-at.was at (c.ask_at.ensures.leads stream (asks_left all.left) (map (λ l. l.kept.talk.items) c.args.links.now) (g.K.Sink.talk c.args.report.now) (i.stands stream stand)
+          led_on all.version c.loop-at.session.version all.depth c.loop-at.session.depth stream h (length c.loop-at.links) c.args.queries (asks_left all.left) (talks_of c.args.links.now) (talks_of c.loop-at.links) (talks_of c.ask_at.new.links) (g.K.Sink.talk c.args.report.now) (g.K.Sink.talk c.loop-at.report) (g.K.Sink.talk c.ask_at.new.report) at.gone at.asked (Ok c.in_ok-at.at) i.version i.depth i.count (i.trail stream stand)
+          (rw c.in_ok-at.was at (c.ask_at.ensures.leads stream (asks_left all.left) (talks_of c.args.links.now) (g.K.Sink.talk c.args.report.now) (i.stands stream stand)
           (rw i.count (next_asks all.left left c.args.queries at.asked at.gone h i.passed.0 i.asked c.requires.left i.passed.1 i.passed.2 i.gone more))
           (length-map c.args.links.now (λ l. l.kept.talk.items) ∙ sym i.count)));
       passed = (
@@ -104,8 +105,8 @@ returns-in_err-at-clause-trails g c = λ stream stand.
     let more : at.asked < c.args.queries = omega arith in
     let p = err_from_is_err_and c.from_residual.result c.from_residual.ensures.1 in
     rw (p.1, p.2)
-    (led_on all.version c.loop-at.session.version all.depth c.loop-at.session.depth stream h (length c.loop-at.links) c.args.queries (asks_left all.left) (map (λ l. l.kept.talk.items) c.args.links.now) (map (λ l. l.kept.talk.items) c.loop-at.links) (map (λ l. l.kept.talk.items) c.ask_at.new.links) (g.K.Sink.talk c.args.report.now) (g.K.Sink.talk c.loop-at.report) (g.K.Sink.talk c.ask_at.new.report) at.gone at.asked (Err c.in_err-at.field-0.0) i.version i.depth i.count (i.trail stream stand)
-    (rw c.in_err-at.was at (c.ask_at.ensures.leads stream (asks_left all.left) (map (λ l. l.kept.talk.items) c.args.links.now) (g.K.Sink.talk c.args.report.now) (i.stands stream stand)
+    (led_on all.version c.loop-at.session.version all.depth c.loop-at.session.depth stream h (length c.loop-at.links) c.args.queries (asks_left all.left) (talks_of c.args.links.now) (talks_of c.loop-at.links) (talks_of c.ask_at.new.links) (g.K.Sink.talk c.args.report.now) (g.K.Sink.talk c.loop-at.report) (g.K.Sink.talk c.ask_at.new.report) at.gone at.asked (Err c.in_err-at.field-0.0) i.version i.depth i.count (i.trail stream stand)
+    (rw c.in_err-at.was at (c.ask_at.ensures.leads stream (asks_left all.left) (talks_of c.args.links.now) (g.K.Sink.talk c.args.report.now) (i.stands stream stand)
     (rw i.count (next_asks all.left left c.args.queries at.asked at.gone h i.passed.0 i.asked c.requires.left i.passed.1 i.passed.2 i.gone more))
     (length-map c.args.links.now (λ l. l.kept.talk.items) ∙ sym i.count))))
 
@@ -114,7 +115,7 @@ returns-clause-trails g c = λ stream stand.
     let i = c.loop-at.invariant in
     let all = c.args.session.now in
     let end : c.loop-at.at.asked ≡ c.args.queries = omega (arith, i.asked) in
-    subst (λ (n : ℕ). TrailsTo all.version all.depth stream (length c.args.links.now) c.args.queries (asks_left all.left) (map (λ l. l.kept.talk.items) c.args.links.now) (map (λ l. l.kept.talk.items) c.loop-at.links) (g.K.Sink.talk c.args.report.now) (g.K.Sink.talk c.loop-at.report) (turn_at c.loop-at.at.gone n)) end (i.trail stream stand)
+    subst (λ (n : ℕ). TrailsTo all.version all.depth stream (length c.args.links.now) c.args.queries (asks_left all.left) (talks_of c.args.links.now) (talks_of c.loop-at.links) (g.K.Sink.talk c.args.report.now) (g.K.Sink.talk c.loop-at.report) (turn_at c.loop-at.at.gone n)) end (i.trail stream stand)
 
 pub returns-in_err-at-clause-honest : goal.returns-in_err-at-clause-honest
 returns-in_err-at-clause-honest g c =

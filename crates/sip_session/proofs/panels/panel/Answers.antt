@@ -7,12 +7,12 @@ use Rattle.sip_session.proofs.panels.panel.Goals as goal
 pub returns-clause-honest : goal.returns-clause-honest
 returns-clause-honest g c =
     told_still _ (λ l. l.kept.talk.items) (λ l sure. kept_is_honest _ l.kept sure)
-    c.args.links.now.items c.as_mut_slice.result.now c.run-status.new.links
+    c.args.links.now.items c.as_mut_slice.result.now c.panel_steps-steps.new.links
     c.as_mut_slice-2.result.now c.let_all_go.new.links _ c.as_mut_slice.ensures.value
     (c.as_mut_slice-2.ensures.value
-    ∙ lent_back _ c.run-status.new.links _
-    (c.run-status.ensures.count ∙ c.as_mut_slice.ensures.len))
+    ∙ lent_back _ c.panel_steps-steps.new.links _
+    (c.panel_steps-steps.ensures.count ∙ c.as_mut_slice.ensures.len))
     (lent_back _ c.let_all_go.new.links _
     (c.let_all_go.ensures.count ∙ c.as_mut_slice-2.ensures.len))
     c.let_all_go.ensures.count c.let_all_go.ensures.talks
-    c.run-status.ensures.honest
+    c.panel_steps-steps.ensures.honest

@@ -3,8 +3,6 @@ use Rattle.std.proofs.Common.{◌≤◌, ◌<◌, [], Err, ap, subst, ◌∙◌,
 use Rattle.std.proofs.lemmas.List.{length-map}
 use Rattle.std.proofs.lemmas.Result.{err_from_is_err_and}
 use Rattle.sip_ports.proofs.TalkLemmas.{GoesOn-refl}
-use Rattle.sip_vector.specs.Limits.{most_depth}
-use Rattle.sip_wire.specs.Table.{most_queries}
 use Rattle.sip_duel.proofs.KeepsLemmas.{kept_is_honest}
 use Rattle.sip_verifier.specs.declared.task.Task.{Task}
 use Rattle.sip_verifier.specs.Gathering.{legal}
@@ -12,9 +10,10 @@ use Rattle.sip_verifier.specs.Snapshots.{counts}
 use Rattle.sip_verifier.specs.Sittings.{Sitting}
 use Rattle.sip_verifier.proofs.RunTalks.{nothing_reported, some_value, written_is}
 use Rattle.sip_verifier.proofs.SeatedBehind.{seats_left}
+use Rattle.sip_session.specs.Links.{talks_of}
 use Rattle.sip_session.specs.inside.Beginning.{Begins}
 use Rattle.sip_session.specs.inside.Hearing.{AllTalks}
-use Rattle.sip_session.proofs.Begun.{helpers_few, never_rose, queries_few, wide_done}
+use Rattle.sip_session.proofs.Begun.{helpers_few, never_rose, task_bounds, wide_done}
 use Rattle.sip_session.proofs.PanelLinks.{told_asking, told_early, told_farewell}
 use Rattle.sip_session.proofs.PanelRuns.{asking_stops, beginning_stops, farewell_listed, halts_wrote, not_begun, panel_tells, said_farewell, stopped_asking, told_nothing}
 use Rattle.sip_session.proofs.Places.{told_length}
@@ -24,14 +23,10 @@ use Rattle.sip_session.proofs.panels.panel_steps.Goals as goal
 pub returns-in_err-session-clause-keeps : goal.returns-in_err-session-clause-keeps
 returns-in_err-session-clause-keeps g c =
     let task = c.args.task.now in
-    let deep : 1 ≤ task.depth =
-    omega (arith, c.get-levels.ensures.same, c.get-levels.ensures.some) in
-    let most : task.depth ≤ most_depth =
-    omega (arith, c.get-levels.ensures.same, c.get-levels.ensures.most) in
-    let room : length task.queries.items ≤ most_queries =
-    queries_few _ (length task.queries.items) _ c.requires.some c.requires.few in
-    let old : AllTalks = map (λ l. l.kept.talk.items) c.args.links.now in
-    let mid : AllTalks = map (λ l. l.kept.talk.items) c.begin.new.links in
+    let (deep, most, room) = task_bounds (length c.args.links.now) task _ c.get-levels.ensures.same
+    c.get-levels.ensures.some c.get-levels.ensures.most c.requires.some c.requires.few in
+    let old : AllTalks = talks_of c.args.links.now in
+    let mid : AllTalks = talks_of c.begin.new.links in
     let p = err_from_is_err_and c.from_residual.result c.from_residual.ensures.1 in
     let stop = c.in_err-session.ensures.fault in
     let cause =
@@ -62,14 +57,10 @@ returns-in_err-session-clause-keeps g c =
 pub returns-in_err-gone-clause-keeps : goal.returns-in_err-gone-clause-keeps
 returns-in_err-gone-clause-keeps g c =
     let task = c.args.task.now in
-    let deep : 1 ≤ task.depth =
-    omega (arith, c.get-levels.ensures.same, c.get-levels.ensures.some) in
-    let most : task.depth ≤ most_depth =
-    omega (arith, c.get-levels.ensures.same, c.get-levels.ensures.most) in
-    let room : length task.queries.items ≤ most_queries =
-    queries_few _ (length task.queries.items) _ c.requires.some c.requires.few in
-    let old : AllTalks = map (λ l. l.kept.talk.items) c.args.links.now in
-    let mid : AllTalks = map (λ l. l.kept.talk.items) c.begin.new.links in
+    let (deep, most, room) = task_bounds (length c.args.links.now) task _ c.get-levels.ensures.same
+    c.get-levels.ensures.some c.get-levels.ensures.most c.requires.some c.requires.few in
+    let old : AllTalks = talks_of c.args.links.now in
+    let mid : AllTalks = talks_of c.begin.new.links in
     let some : 0 < length old =
     omega (arith, length-map c.args.links.now (λ l. l.kept.talk.items), c.requires.some) in
     let lent = c.deref_mut.ensures.value in
@@ -97,7 +88,7 @@ returns-in_err-gone-clause-keeps g c =
           (g.K.Sink.talk c.args.report.now) (g.K.Sink.talk c.ask_all.new.report)
           (λ bytes went. written_is _ _ bytes x.report went t.report) c.len-queries.result
           c.len-queries.ensures.value
-          (map (λ l. l.kept.talk.items) c.ask_all.new.links) t.talks
+          (talks_of c.ask_all.new.links) t.talks
           (told_length (λ l. l.kept.talk.items) c.begin.new.links c.ask_all.new.links
           c.ask_all.ensures.count) c.in_err-gone.field-0.0
           (rw (lent, c.begin.ensures.count)
@@ -122,14 +113,10 @@ returns-in_err-gone-clause-keeps g c =
 pub returns-clause-keeps : goal.returns-clause-keeps
 returns-clause-keeps g c =
     let task = c.args.task.now in
-    let deep : 1 ≤ task.depth =
-    omega (arith, c.get-levels.ensures.same, c.get-levels.ensures.some) in
-    let most : task.depth ≤ most_depth =
-    omega (arith, c.get-levels.ensures.same, c.get-levels.ensures.most) in
-    let room : length task.queries.items ≤ most_queries =
-    queries_few _ (length task.queries.items) _ c.requires.some c.requires.few in
-    let old : AllTalks = map (λ l. l.kept.talk.items) c.args.links.now in
-    let mid : AllTalks = map (λ l. l.kept.talk.items) c.begin.new.links in
+    let (deep, most, room) = task_bounds (length c.args.links.now) task _ c.get-levels.ensures.same
+    c.get-levels.ensures.some c.get-levels.ensures.most c.requires.some c.requires.few in
+    let old : AllTalks = talks_of c.args.links.now in
+    let mid : AllTalks = talks_of c.begin.new.links in
     let some : 0 < length old =
     omega (arith, length-map c.args.links.now (λ l. l.kept.talk.items), c.requires.some) in
     let lent = c.deref_mut.ensures.value in
@@ -159,8 +146,8 @@ returns-clause-keeps g c =
           (g.K.Sink.talk c.args.report.now) (g.K.Sink.talk c.ask_all.new.report)
           (λ bytes went. written_is _ _ bytes x.report went t.report) c.len-queries.result
           c.len-queries.ensures.value
-          (map (λ l. l.kept.talk.items) c.ask_all.new.links)
-          (map (λ l. l.kept.talk.items) c.say_bye.new.links) t.talks
+          (talks_of c.ask_all.new.links)
+          (talks_of c.say_bye.new.links) t.talks
           (told_length (λ l. l.kept.talk.items) c.begin.new.links c.ask_all.new.links
           c.ask_all.ensures.count)
           (told_length (λ l. l.kept.talk.items) c.ask_all.new.links c.say_bye.new.links
