@@ -1,59 +1,70 @@
 //! A whole run of a verifier of lookups.
 
-ghost use Rattle.std.specs.Prelude.{None};
+ghost use Rattle.std.specs.Prelude.{◌≡◌, ◌⊎◌, false, length, Err, IfOk, IsTrue, MatchResult};
+ghost use Rattle.std.specs.Prelude.{None, Ok};
+ghost use Rattle.std.specs.List.{list_all, zip};
 ghost use Rattle.sip_ports.specs.Ports.{Lasts};
 ghost use Rattle.sip_verifier.specs.Exchanges.{TakesAtMost};
 ghost use Rattle.sip_verifier.specs.Snapshots.{no_port, port, snapshot};
 ghost use Rattle.sip_verifier.specs.runs.Concluding.{status_of};
+ghost use Rattle.sip_verifier.specs.SeatNumbers.{has_root};
+ghost use Rattle.sip_verifier.specs.Seats.{Seating};
 ghost use Rattle.sip_lookup.specs.Promises.{LookClause};
-ghost use Rattle.sip_lookup.specs.Tasks.{CanLookUp};
+ghost use Rattle.sip_lookup.specs.Tasks.{CanLookUp, version_of};
 
 use crate::asker::Looker;
 use crate::task::LookTask;
 use sip_ports::{Link, NullSink, Sink, Source};
 use sip_vector::Depth;
-use sip_verifier::{Status, conclude_run, gather};
+use sip_verifier::{Seats, Status, conclude_run, gather};
 use std::alloc::Global;
+use std::mem;
 
-/// All that a run does, up to its first stop.
-fn look_steps<A: Source, B: Source, L: Link, K: Sink>(
+/// The lookups over the seats that were gathered, if they were, on the heap. The seats are taken
+/// from where they stand: they are large, and the stack has what is made of them no longer than
+/// this call.
+#[inline(never)]
+fn seat_lookups(
     alloc: Global,
     task: &LookTask,
-    first: &mut A,
-    second: &mut B,
-    peer: &mut L,
-    report: &mut K,
-) -> Result<(), Status>
-    requires { CanLookUp task.now }
-    ensures keeps { LookClause task.now
-        (snapshot (port A.left A.faults first.old) (port B.left B.faults second.old)
-        (port L.talk L.faults peer.old) (port K.talk K.faults report.old) no_port)
-        (snapshot (port A.left A.faults first.new) (port B.left B.faults second.new)
-        (port L.talk L.faults peer.new) (port K.talk K.faults report.new) no_port)
-        (status_of result) }
-    ensures first { Lasts A.faults A.wants A.is_sure first.old first.new }
-    ensures seed { TakesAtMost 32 (B.left second.old) (B.left second.new) }
-    ensures second { Lasts B.faults B.wants B.is_sure second.old second.new }
-    ensures peer { Lasts L.faults L.wants L.is_sure peer.old peer.new }
-    ensures report { Lasts K.faults K.wants K.is_sure report.old report.new }
+    gathered: &mut Result<Seats, Status>,
+) -> Result<Box<Looker>, Status>
+    requires can { CanLookUp task.now }
+    requires levels { IfOk gathered.old (λ seats. seats.depth ≡ task.now.depth) }
+    requires each { IfOk gathered.old
+        (λ seats. length seats.seats ≡ length task.now.lookups.items) }
+    requires rooted { IfOk gathered.old
+        (λ seats. IsTrue (list_all (λ s. has_root s.query) seats.seats)) }
+    ensures { MatchResult result
+        (λ looker. (seats : Seating) × (gathered.old ≡ Ok seats) × (looker.value ≡ record {
+          version = version_of task.now;
+          depth = task.now.depth;
+          left = zip task.now.lookups.items seats.seats;
+          spent = false;
+        }))
+        (λ status. (gathered.old ≡ Err status) ⊎ (seats : Seating) × (gathered.old ≡ Ok seats)
+        × (status ≡ Status.OutOfMemory)) }
 {
-    let levels = task.depth.get();
-    prove!(levels >= 1 && levels <= Depth::MOST);
-    // A run of lookups keeps no record of its talk.
-    let mut keep = NullSink::new();
-    // Nothing is gathered yet.
-    let mut gathered = Err(Status::SeedSpent);
-    gather(
-        &task.rooted(),
-        first,
-        second,
-        peer,
-        &mut keep,
-        &mut gathered,
-    );
-    let seats = gathered?;
-    let mut looker = Looker::new(alloc, task, seats)?;
-    conclude_run(&mut looker, peer, report, &mut keep)
+    match mem::replace(gathered, Err(Status::SeedSpent)) {
+        Ok(seats) => {
+            let looker = Looker::new(alloc, task, seats)?;
+            match Box::new(alloc, looker) {
+                Ok(looker) => Ok(looker),
+                Err(_) => Err(Status::OutOfMemory),
+            }
+        }
+        Err(status) => Err(status),
+    }
+}
+
+/// The status that steps end with.
+fn status_of(steps: Result<(), Status>) -> Status
+    ensures { result ≡ status_of steps }
+{
+    match steps {
+        Ok(()) => Status::Accepted,
+        Err(status) => status,
+    }
 }
 
 /// Does a task: draws the challenges from `second`, reads the stream of `first` and sends it over
@@ -85,8 +96,22 @@ pub fn look_stream<A: Source, B: Source, L: Link, K: Sink>(
     ensures peer { Lasts L.faults L.wants L.is_sure peer.old peer.new }
     ensures report { Lasts K.faults K.wants K.is_sure report.old report.new }
 {
-    match look_steps(alloc, task, first, second, peer, report) {
-        Ok(()) => Status::Accepted,
+    let levels = task.depth.get();
+    prove!(levels >= 1 && levels <= Depth::MOST);
+    // A run of lookups keeps no record of its talk.
+    let mut keep = NullSink::new();
+    // Nothing is gathered yet. What is stays here until the lookups have it.
+    let mut gathered = Err(Status::SeedSpent);
+    gather(
+        &task.rooted(),
+        first,
+        second,
+        peer,
+        &mut keep,
+        &mut gathered,
+    );
+    match seat_lookups(alloc, task, &mut gathered) {
+        Ok(mut looker) => status_of(conclude_run(&mut *looker, peer, report, &mut keep)),
         Err(status) => status,
     }
 }
