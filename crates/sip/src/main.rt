@@ -1,12 +1,12 @@
 //! `sip`: checks the answer of a helper that keeps a stream for you.
 #![tactic(auto)]
 
-ghost use Rattle.std.specs.Prelude.{◌≡◌, ◌⊎◌, ◌↔◌, ℕ, IsTrue, IfSome, IsSome, None};
+ghost use Rattle.std.specs.Prelude.{◌≡◌, ◌⊎◌, ◌↔◌, ℕ, List, IsTrue, IfSome, IsSome, None};
 ghost use Rattle.sip_verifier.specs.declared.status.Status.{Status as AnyStatus};
 ghost use Rattle.sip_cli.specs.declared.command.Command.{Command as AnyCommand};
 ghost use Rattle.sip_cli.specs.declared.sparing.PlanFiles.{PlanFiles as AnyFiles};
 ghost use Rattle.sip_cli.specs.Exit.{code_of};
-ghost use Rattle.sip_cli.specs.Pages.{AsksText};
+ghost use Rattle.sip_cli.specs.Pages.{AsksPart, AsksText};
 ghost use Rattle.sip_cli.specs.Plan.{file_name};
 ghost use Rattle.sip_cli.specs.Sparing.{Spares};
 ghost use Rattle.sip_cli.specs.Statuses.{Ends};
@@ -16,8 +16,8 @@ ghost use Rattle.sip_cli.specs.Words.{IsSpelled, Spells, IsRefusedAt};
 
 use sip_cli::{
     Command, Ending, FileId, LinkOrder, OPENING_FROM, OPENING_TO, Opening, PlanFiles, PortPlan,
-    ToldLink, ToldSource, Usage, Words, finish, obey, page_of, panel, play, ports, read_words,
-    status_without_words, write_page,
+    ToldLink, ToldSource, Usage, Words, finish, obey, page_of, page_without_file, panel, play,
+    ports, read_words, status_without_words, write_page,
 };
 use sip_ports::{
     FileLink, FileSink, FileSource, NullSink, Sink, Source, StderrSink, StdoutSink, write_whole,
@@ -291,21 +291,49 @@ fn obey_opened(rt: &HostRuntime, words: &Words, command: &Command, tells: bool) 
     }
 }
 
-/// The status of words that ask for no text: that of the command that they spell, or a usage fault
-/// where they spell none.
+/// The page's part about a command that may be a call for it, where nothing has the name of its
+/// file.
+fn page_behind(rt: &HostRuntime, words: &Words, command: &Command) -> Option<&'static str>
+    ensures { IsSome result → (text : List ℕ) × AsksPart words.now text }
+{
+    let text = page_without_file(words)?;
+    let name = ports(words, command).second.name(words)?;
+    match fs::metadata(rt, name) {
+        Err(error) if error.kind() == io::ErrorKind::NotFound => Some(text),
+        _ => None,
+    }
+}
+
+/// The status of a command that the words spell.
+fn obey_command(rt: &HostRuntime, words: &Words, command: &Command, tells: bool) -> Status
+    requires { Spells words.now command.now }
+    // Words that are a call for a part of the page too may get that.
+    ensures spelled { ((text : List ℕ) → AsksPart words.now text → ⊥) → Ends command.now result }
+    ensures usage { (word : ℕ) → result ≡ Status.Usage word → ⊥ }
+{
+    match page_behind(rt, words, command) {
+        Some(text) => write_page(text, &mut StdoutSink::new(io::writer(rt))),
+        None => obey_opened(rt, words, command, tells).unwrap_or(Status::OutOfMemory),
+    }
+}
+
+/// The status of words that ask for no text alone: that of the command that they spell, or a usage
+/// fault where they spell none.
 fn obey_words(rt: &HostRuntime, words: &Words, tells: bool) -> Status
-    ensures spelled { (command : AnyCommand) → Spells words.now command → Ends command result }
+    ensures spelled { (command : AnyCommand) → Spells words.now command
+        → ((text : List ℕ) → AsksPart words.now text → ⊥) → Ends command result }
     ensures usage { (word : ℕ) → (result ≡ Status.Usage word) ↔ IsRefusedAt words.now word }
 {
     match read_words(words) {
-        Ok(command) => obey_opened(rt, words, &command, tells).unwrap_or(Status::OutOfMemory),
+        Ok(command) => obey_command(rt, words, &command, tells),
         Err(Usage { word }) => Status::Usage { word },
     }
 }
 
 /// The status of the words: that of the page that they ask for, or of what they say.
 fn done(rt: &HostRuntime, words: &Words, tells: bool) -> Status
-    ensures spelled { (command : AnyCommand) → Spells words.now command → Ends command result }
+    ensures spelled { (command : AnyCommand) → Spells words.now command
+        → ((text : List ℕ) → AsksPart words.now text → ⊥) → Ends command result }
     ensures usage { (word : ℕ) → result ≡ Status.Usage word → IsRefusedAt words.now word }
     ensures refused { (word : ℕ) → IsRefusedAt words.now word
         → AsksText words.now ⊎ (result ≡ Status.Usage word) }

@@ -35,10 +35,10 @@ pub use advice::hint;
 pub use command::{Command, read_words};
 pub use exit::{Ending, exit_code, finish, status_without_words};
 pub use helper_name::HelperName;
-pub use page::{page_of, write_page};
+pub use page::{page_of, page_without_file, write_page};
 pub use page_text::{
-    AUDIT_PART, GEN_PART, HELP, HELP_PART, HELPLOOK_PART, HELPMOM_PART, LINES_PART, LOOKUP_PART,
-    MOMENTS_PART, PANEL_PART, PLAY_PART, VERIFY_PART, VERSION, WIDEN_PART,
+    AUDIT_PART, CONVERT_PART, GEN_PART, HELP, HELP_PART, HELPLOOK_PART, HELPMOM_PART, LINES_PART,
+    LOOKUP_PART, MOMENTS_PART, PANEL_PART, PLAY_PART, SHOW_PART, VERIFY_PART, VERSION, WIDEN_PART,
 };
 pub use panelling::panel;
 pub use plan::{LinkOrder, Opening, PortPlan, ports};

@@ -5,7 +5,8 @@ ghost use Rattle.std.specs.Option.{option_copied};
 ghost use Rattle.sip_ports.specs.Ports.{Lasts, Rose};
 ghost use Rattle.sip_cli.specs.Pages.{AsksHelp, AsksPart, AsksText, AsksVersion, PageClause};
 ghost use Rattle.sip_cli.specs.Pages.{part_of};
-ghost use Rattle.sip_cli.specs.Words.{IsRefusedAt};
+ghost use Rattle.sip_cli.specs.declared.command.Command.{Command as AnyCommand};
+ghost use Rattle.sip_cli.specs.Words.{IsRefusedAt, Spells};
 
 use crate::page_text::{
     AUDIT_PART, CONVERT_PART, GEN_PART, HELP, HELP_PART, HELPLOOK_PART, HELPMOM_PART, LINES_PART,
@@ -58,21 +59,48 @@ fn part(verb: Verb) -> &'static str
     }
 }
 
-// The part that two words ask for, where they are no command.
+// The part that two words ask for, be they a command or not.
 fn part_asked(words: &Words) -> Option<&'static str>
+    ensures part { (text : List ℕ) → AsksPart words.now text
+        → option_copied result ≡ Some text }
+    ensures only { IfSome result (λ text. AsksPart words.now text.now) }
+{
+    let (first, second) = words.pair()?;
+    let verb = Verb::of(first)?;
+    if asks_help(second) {
+        Some(part(verb))
+    } else {
+        None
+    }
+}
+
+// The part that two words ask for, where they are no command.
+fn part_alone(words: &Words) -> Option<&'static str>
     ensures part { (text : List ℕ) (n : ℕ) → AsksPart words.now text → IsRefusedAt words.now n
         → option_copied result ≡ Some text }
     ensures only { IfSome result (λ text. AsksPart words.now text.now) }
     ensures refused { IsSome result → (n : ℕ) × IsRefusedAt words.now n }
 {
-    let (first, second) = words.pair()?;
-    let verb = Verb::of(first)?;
-    if !asks_help(second) {
-        return None;
-    }
+    let text = part_asked(words)?;
     match read_words(words) {
         Ok(_) => None,
-        Err(_) => Some(part(verb)),
+        Err(_) => Some(text),
+    }
+}
+
+/// The part of the page that words ask for which are a command too: `show --help` and `convert
+/// --help`, or the same with `-h`, whose second word may be the name of a file. It is for where
+/// there is no such file, and the command could do nothing.
+pub fn page_without_file(words: &Words) -> Option<&'static str>
+    ensures part { (text : List ℕ) (command : AnyCommand) → AsksPart words.now text
+        → Spells words.now command → option_copied result ≡ Some text }
+    ensures only { IfSome result (λ text. AsksPart words.now text.now) }
+    ensures spelled { IsSome result → (command : AnyCommand) × Spells words.now command }
+{
+    let text = part_asked(words)?;
+    match read_words(words) {
+        Ok(_) => Some(text),
+        Err(_) => None,
     }
 }
 
@@ -92,7 +120,7 @@ pub fn page_of(words: &Words) -> Option<&'static str>
 {
     match words.only() {
         Some(word) => text_alone(word),
-        None => part_asked(words),
+        None => part_alone(words),
     }
 }
 

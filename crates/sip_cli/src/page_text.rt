@@ -272,7 +272,7 @@ USAGE
                              each wait for the other side
 
 Behind the name of a command --help and -h print its part of this page, as sip
-verify --help does; behind show and convert they name a file.
+verify --help does; behind show and convert they name a file, if there is one.
 
 A record has 13 bytes: a side (one byte, 0 or 1), an item (four bytes) and what
 is added to its entry (eight bytes, signed), the first byte of a number being
@@ -474,10 +474,12 @@ pub const HELPMOM_PART: &str = text_of!(helpmom);
 /// What `sip audit --help` prints: the part of the page that is about `audit`.
 pub const AUDIT_PART: &str = text_of!(audit);
 
-/// The part of the page that is about `show`.
+/// What `sip show --help` prints where no file has that name: the part of the page that is about
+/// `show`.
 pub const SHOW_PART: &str = text_of!(show);
 
-/// The part of the page that is about `convert`.
+/// What `sip convert --help` prints where no file has that name: the part of the page that is about
+/// `convert`.
 pub const CONVERT_PART: &str = text_of!(convert);
 
 /// What `sip gen --help` prints: the part of the page that is about `gen`.

@@ -2,8 +2,9 @@
 
 use crate::page_tests::words_between;
 use sip_cli::{
-    AUDIT_PART, GEN_PART, HELP, HELP_PART, HELPLOOK_PART, HELPMOM_PART, LINES_PART, LOOKUP_PART,
-    MOMENTS_PART, PANEL_PART, PLAY_PART, VERIFY_PART, VERSION, WIDEN_PART, page_of,
+    AUDIT_PART, CONVERT_PART, GEN_PART, HELP, HELP_PART, HELPLOOK_PART, HELPMOM_PART, LINES_PART,
+    LOOKUP_PART, MOMENTS_PART, PANEL_PART, PLAY_PART, SHOW_PART, VERIFY_PART, VERSION, WIDEN_PART,
+    page_of, page_without_file,
 };
 use sip_command_tests::case::Case;
 use std::alloc::Global;
@@ -69,9 +70,35 @@ const PARTS: &[Asked<'static>] = &[
     ("widen|-h", Some(WIDEN_PART)),
 ];
 
+// Words for a part that is printed where no file has that name, and words for none.
+const WITHOUT_FILE: &[Asked<'static>] = &[
+    ("show|--help", Some(SHOW_PART)),
+    ("show|-h", Some(SHOW_PART)),
+    ("convert|--help", Some(CONVERT_PART)),
+    ("convert|-h", Some(CONVERT_PART)),
+    ("verify|--help", None),
+    ("help|-h", None),
+    ("show|--version", None),
+    ("show|--Help", None),
+    ("show|--help|x", None),
+    ("convert", None),
+    ("show|t", None),
+    ("--help", None),
+];
+
 fn check_asked(rt: &impl Abort, alloc: Global, rows: &[Asked]) -> Result<(), Fail> {
     for &(name, want) in rows {
         let text = page_of(&words_between(alloc, name, '|')?);
+        Case { name, number: 0 }
+            .holds(text == want)
+            .expect(rt, "a case");
+    }
+    Ok(())
+}
+
+fn check_without_file(rt: &impl Abort, alloc: Global, rows: &[Asked]) -> Result<(), Fail> {
+    for &(name, want) in rows {
+        let text = page_without_file(&words_between(alloc, name, '|')?);
         Case { name, number: 0 }
             .holds(text == want)
             .expect(rt, "a case");
@@ -91,6 +118,8 @@ const SAID: &[&str] = &[
     MOMENTS_PART,
     HELPMOM_PART,
     AUDIT_PART,
+    SHOW_PART,
+    CONVERT_PART,
     GEN_PART,
     LINES_PART,
     WIDEN_PART,
@@ -162,6 +191,11 @@ fn words_ask_for_the_page_alone(rt: HostRuntime) -> Result<(), Fail> {
 #[test]
 fn words_ask_for_their_part_alone(rt: HostRuntime) -> Result<(), Fail> {
     check_asked(&rt, rt.alloc(), PARTS)
+}
+
+#[test]
+fn words_ask_for_their_part_where_no_file_is_named_so(rt: HostRuntime) -> Result<(), Fail> {
+    check_without_file(&rt, rt.alloc(), WITHOUT_FILE)
 }
 
 #[test]

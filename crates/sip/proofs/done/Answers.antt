@@ -4,7 +4,7 @@ use Rattle.sip.proofs.Endings.{never_of_page}
 use Rattle.sip.proofs.done.Goals as goal
 
 pub returns-in-Some-clause-spelled : goal.returns-in-Some-clause-spelled
-returns-in-Some-clause-spelled c = λ command spells.
+returns-in-Some-clause-spelled c = λ command spells none.
     let refused = c.in-Some.ensures.refused (cc) in
     absurd (spelled_not_refused _ command _ spells refused.1)
 
