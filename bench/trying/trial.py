@@ -153,11 +153,10 @@ def compared(outcome, ran):
         yield f"it ends with {ran.code}, not {wanted}: {ran.said[:300]!r}"
     if outcome.status != "Page" and ran.report != outcome.report:
         yield f"its report is {shown(ran.report)}, not {shown(outcome.report)}"
-    # A second line may be advice.
-    lines = ran.said.decode(errors="replace").splitlines(keepends=True)
-    lines = [line for line in lines if not line.startswith("sip: progress: ")]
-    said, _, advice = "".join(lines).partition("\n")
-    if said != outcome.said or advice and not advice.startswith("sip: hint:"):
+    # Lines of advice may follow, or stand alone.
+    lines = ran.said.decode(errors="replace").splitlines()
+    lines = [line for line in lines if not line.startswith(("sip: progress: ", "sip: hint: "))]
+    if lines != ([outcome.said] if outcome.said else []):
         yield f"it says {ran.said[:300]!r}, not {outcome.said!r}"
     if ran.to != outcome.to:
         yield f"its TO has {shown(ran.to)}, not {shown(outcome.to)}"

@@ -15,9 +15,10 @@ ghost use Rattle.sip_cli.specs.ToldTalk.{IsScript, talk_teller, unsaid};
 ghost use Rattle.sip_cli.specs.Words.{IsSpelled, Spells, IsRefusedAt};
 
 use sip_cli::{
-    Command, Ending, FileId, LinkOrder, OPENING_FROM, OPENING_TO, Opening, PlanFiles, PortPlan,
-    ToldLink, ToldSource, Usage, Words, finish, obey, page_of, page_without_file, panel, play,
-    ports, read_words, status_without_words, write_page,
+    Command, Ending, FileId, LinkOrder, Noted, OPENING_FROM, OPENING_TO, Opening, PlanFiles,
+    PortPlan, SeedLook, ToldLink, ToldSource, Trouble, Unopened, Usage, Words, finish, has_seed,
+    obey, page_of, page_without_file, panel, play, ports, read_words, status_without_words,
+    write_page,
 };
 use sip_ports::{
     FileLink, FileSink, FileSource, NullSink, Sink, Source, StderrSink, StdoutSink, write_whole,
@@ -25,8 +26,8 @@ use sip_ports::{
 use sip_stream::MadeSource;
 use sip_verifier::Status;
 use std::fs::{self, File};
-use std::io::Stderr;
-use std::os::unix::fs::MetadataExt;
+use std::io::{Read, Stderr};
+use std::os::unix::fs::{MetadataExt, PermissionsExt};
 use std::process::ExitCode;
 use std::{env, io};
 
@@ -74,18 +75,59 @@ fn sparing(rt: &HostRuntime, words: &Words, plan: &PortPlan) -> PortPlan
     })
 }
 
-/// A file to read. None is opened that the words do not name.
-fn opened(rt: &HostRuntime, words: &Words, opening: Opening) -> Option<File>
+/// The file that an opening gave, or why there is none, which is noted.
+fn noting(file: io::Result<File>, opening: Opening, note: &mut Option<Unopened>) -> Option<File> {
+    match file {
+        Ok(file) => Some(file),
+        Err(error) => {
+            *note = Unopened::of(opening, Trouble::of(&error));
+            None
+        }
+    }
+}
+
+/// A file to read. None is opened that the words do not name. A directory can be opened, but not
+/// read.
+fn opened(
+    rt: &HostRuntime,
+    words: &Words,
+    opening: Opening,
+    note: &mut Option<Unopened>,
+) -> Option<File>
     ensures { file_name opening words.now ≡ None → result ≡ None }
 {
-    File::open(rt, opening.name(words)?).ok()
+    let name = opening.name(words)?;
+    let file = noting(File::open(rt, name), opening, note)?;
+    if file.metadata().is_ok_and(|told| told.is_dir()) {
+        *note = Unopened::of(opening, Trouble::Directory);
+    }
+    Some(file)
+}
+
+/// What the file of a seed is like, if it is a regular one, which is opened once more for a look.
+fn seed_look(rt: &HostRuntime, words: &Words, opening: Opening) -> Option<SeedLook>
+    ensures { file_name opening words.now ≡ None → result ≡ None }
+{
+    let name = opening.name(words)?;
+    regular(rt, words, opening)?;
+    let mut file = File::open(rt, name).ok()?;
+    let mode = file.metadata().ok()?.permissions().mode();
+    let mut front = [0; 32];
+    let count = file.read(&mut front).ok()?;
+    Some(SeedLook::of(&front[..count], mode))
 }
 
 /// A file to write, which is made or emptied. None is that the words do not name.
-fn emptied(rt: &HostRuntime, words: &Words, opening: Opening) -> Option<File>
+fn emptied(
+    rt: &HostRuntime,
+    words: &Words,
+    opening: Opening,
+    note: &mut Option<Unopened>,
+) -> Option<File>
     ensures { file_name opening words.now ≡ None → result ≡ None }
 {
-    File::create(rt, opening.name(words)?).ok()
+    let name = opening.name(words)?;
+    noting(File::create(rt, name), opening, note)
 }
 
 /// Where the lines of `--progress` go.
@@ -119,13 +161,14 @@ fn stream(
     words: &Words,
     command: &Command,
     opening: Opening,
+    noted: &mut Noted,
     tells: bool,
 ) -> Option<Box<ToldSource<FileSource, Lines>>>
     // What it tells it tells of the command's stream.
     ensures { IfSome result (λ told. IfSome (stream_teller told.value) (λ teller.
         teller.reading ≡ unread (stream_form command.now))) }
 {
-    let file = FileSource::new(opened(rt, words, opening));
+    let file = FileSource::new(opened(rt, words, opening, &mut noted.first));
     Box::new(rt.alloc(), ToldSource::new(command, file, lines(rt, tells))).ok()
 }
 
@@ -148,8 +191,13 @@ fn made(
 /// What reads through a buffer stands on the heap, and is made in a call of its own, so that the
 /// stack has the buffer no longer than that.
 #[inline(never)]
-fn source(rt: &HostRuntime, words: &Words, opening: Opening) -> Option<Box<FileSource>> {
-    let file = opened(rt, words, opening);
+fn source(
+    rt: &HostRuntime,
+    words: &Words,
+    opening: Opening,
+    noted: &mut Noted,
+) -> Option<Box<FileSource>> {
+    let file = opened(rt, words, opening, &mut noted.second);
     Box::new(rt.alloc(), FileSource::new(file)).ok()
 }
 
@@ -164,6 +212,7 @@ fn link(
     words: &Words,
     command: &Command,
     plan: &PortPlan,
+    noted: &mut Noted,
     tells: bool,
 ) -> Option<Box<Peer>>
     // What it tells it tells of what the command asks.
@@ -173,15 +222,15 @@ fn link(
     let (from, to) = match plan.link_order() {
         LinkOrder::ToFirst => {
             say(rt, plan.to, OPENING_TO, tells);
-            let to = emptied(rt, words, plan.to);
+            let to = emptied(rt, words, plan.to, &mut noted.to);
             say(rt, plan.from, OPENING_FROM, tells);
-            (opened(rt, words, plan.from), to)
+            (opened(rt, words, plan.from, &mut noted.from), to)
         }
         LinkOrder::FromFirst => {
             say(rt, plan.from, OPENING_FROM, tells);
-            let from = opened(rt, words, plan.from);
+            let from = opened(rt, words, plan.from, &mut noted.from);
             say(rt, plan.to, OPENING_TO, tells);
-            (from, emptied(rt, words, plan.to))
+            (from, emptied(rt, words, plan.to, &mut noted.to))
         }
     };
     let link = FileLink::new(from, to);
@@ -190,8 +239,13 @@ fn link(
 
 /// The file that keeps the transcript, which is made or emptied; `None` where memory is refused.
 #[inline(never)]
-fn record(rt: &HostRuntime, words: &Words, opening: Opening) -> Option<Box<FileSink>> {
-    let file = emptied(rt, words, opening);
+fn record(
+    rt: &HostRuntime,
+    words: &Words,
+    opening: Opening,
+    noted: &mut Noted,
+) -> Option<Box<FileSink>> {
+    let file = emptied(rt, words, opening, &mut noted.keep);
     Box::new(rt.alloc(), FileSink::new(file)).ok()
 }
 
@@ -245,19 +299,23 @@ fn obey_over<S: Source>(
     command: &Command,
     plan: &PortPlan,
     first: &mut S,
+    noted: &mut Noted,
     tells: bool,
 ) -> Option<Status>
     requires { Spells words.now command.now }
     ensures { IfSome result (λ status. Ends command.now status) }
 {
-    let second = source(rt, words, plan.second)?;
-    let peer = link(rt, words, command, plan, tells)?;
+    let second = source(rt, words, plan.second, noted)?;
+    let peer = link(rt, words, command, plan, noted, tells)?;
     let mut held = RunPorts { second, peer };
     // Where neither TO nor RECORD was there, they may be one file now.
     let keep = sparing(rt, words, plan).keep;
+    if keep != plan.keep {
+        noted.keep = Unopened::taken(plan.keep, keep);
+    }
     Some(match keep {
         Opening::Path { .. } | Opening::Spared => {
-            let mut keep = record(rt, words, keep)?;
+            let mut keep = record(rt, words, keep, noted)?;
             obey_keeping(rt, command, first, &mut held, &mut *keep)
         }
         Opening::Nothing | Opening::Made { .. } => {
@@ -267,13 +325,24 @@ fn obey_over<S: Source>(
 }
 
 /// Does the command that the words spell, over the file or the made stream that is the first
-/// source. `None` where memory is refused to a port.
-fn obey_opened(rt: &HostRuntime, words: &Words, command: &Command, tells: bool) -> Option<Status>
+/// source, and notes which files are not to be had. `None` where memory is refused to a port.
+fn obey_opened(
+    rt: &HostRuntime,
+    words: &Words,
+    command: &Command,
+    noted: &mut Noted,
+    tells: bool,
+) -> Option<Status>
     requires { Spells words.now command.now }
     ensures { IfSome result (λ status. Ends command.now status) }
 {
     let asked = ports(words, command);
     let plan = sparing(rt, words, &asked);
+    noted.to = Unopened::taken(asked.to, plan.to);
+    noted.keep = Unopened::taken(asked.keep, plan.keep);
+    if has_seed(words) {
+        noted.seed = seed_look(rt, words, plan.second).unwrap_or_default();
+    }
     match &asked.first {
         Opening::Made {
             number,
@@ -282,11 +351,11 @@ fn obey_opened(rt: &HostRuntime, words: &Words, command: &Command, tells: bool) 
         } => {
             let source = MadeSource::new(*number, *count, *depth);
             let mut first = made(rt, command, source, tells)?;
-            obey_over(rt, words, command, &plan, &mut *first, tells)
+            obey_over(rt, words, command, &plan, &mut *first, noted, tells)
         }
         Opening::Nothing | Opening::Spared | Opening::Path { .. } => {
-            let mut first = stream(rt, words, command, asked.first, tells)?;
-            obey_over(rt, words, command, &plan, &mut *first, tells)
+            let mut first = stream(rt, words, command, asked.first, noted, tells)?;
+            obey_over(rt, words, command, &plan, &mut *first, noted, tells)
         }
     }
 }
@@ -305,7 +374,13 @@ fn page_behind(rt: &HostRuntime, words: &Words, command: &Command) -> Option<&'s
 }
 
 /// The status of a command that the words spell.
-fn obey_command(rt: &HostRuntime, words: &Words, command: &Command, tells: bool) -> Status
+fn obey_command(
+    rt: &HostRuntime,
+    words: &Words,
+    command: &Command,
+    noted: &mut Noted,
+    tells: bool,
+) -> Status
     requires { Spells words.now command.now }
     // Words that are a call for a part of the page too may get that.
     ensures spelled { ((text : List ℕ) → AsksPart words.now text → ⊥) → Ends command.now result }
@@ -313,25 +388,25 @@ fn obey_command(rt: &HostRuntime, words: &Words, command: &Command, tells: bool)
 {
     match page_behind(rt, words, command) {
         Some(text) => write_page(text, &mut StdoutSink::new(io::writer(rt))),
-        None => obey_opened(rt, words, command, tells).unwrap_or(Status::OutOfMemory),
+        None => obey_opened(rt, words, command, noted, tells).unwrap_or(Status::OutOfMemory),
     }
 }
 
 /// The status of words that ask for no text alone: that of the command that they spell, or a usage
 /// fault where they spell none.
-fn obey_words(rt: &HostRuntime, words: &Words, tells: bool) -> Status
+fn obey_words(rt: &HostRuntime, words: &Words, noted: &mut Noted, tells: bool) -> Status
     ensures spelled { (command : AnyCommand) → Spells words.now command
         → ((text : List ℕ) → AsksPart words.now text → ⊥) → Ends command result }
     ensures usage { (word : ℕ) → (result ≡ Status.Usage word) ↔ IsRefusedAt words.now word }
 {
     match read_words(words) {
-        Ok(command) => obey_command(rt, words, &command, tells),
+        Ok(command) => obey_command(rt, words, &command, noted, tells),
         Err(Usage { word }) => Status::Usage { word },
     }
 }
 
 /// The status of the words: that of the page that they ask for, or of what they say.
-fn done(rt: &HostRuntime, words: &Words, tells: bool) -> Status
+fn done(rt: &HostRuntime, words: &Words, noted: &mut Noted, tells: bool) -> Status
     ensures spelled { (command : AnyCommand) → Spells words.now command
         → ((text : List ℕ) → AsksPart words.now text → ⊥) → Ends command result }
     ensures usage { (word : ℕ) → result ≡ Status.Usage word → IsRefusedAt words.now word }
@@ -340,7 +415,7 @@ fn done(rt: &HostRuntime, words: &Words, tells: bool) -> Status
 {
     match page_of(words) {
         Some(text) => write_page(text, &mut StdoutSink::new(io::writer(rt))),
-        None => obey_words(rt, words, tells),
+        None => obey_words(rt, words, noted, tells),
     }
 }
 
@@ -352,13 +427,17 @@ fn ending(rt: &HostRuntime) -> Ending
     match words(rt) {
         Ok(given) => {
             let (words, tells) = given.behind_progress();
-            let status = done(rt, &words, tells);
+            let mut noted = Noted::default();
+            let status = done(rt, &words, &mut noted, tells);
             let mut errors = StderrSink::new(rt.stderr());
-            finish(&status, &mut errors).advise(&words, &status, &mut errors)
+            finish(&status, &mut errors)
+                .advise(&words, &noted, &status, &mut errors)
+                .warn(&noted, &mut errors)
         }
         Err(error) => {
             let status = status_without_words(&error);
-            finish(&status, &mut StderrSink::new(rt.stderr()))
+            let mut errors = StderrSink::new(rt.stderr());
+            finish(&status, &mut errors).advise_unread(&status, &mut errors)
         }
     }
 }

@@ -4,6 +4,8 @@ pub mod Verbs
 pub mod Plan
 pub mod Sparing
 pub mod Pages
+pub mod Quoting
+pub mod Noting
 pub mod Hints
 pub mod Telling
 pub mod ToldStream

@@ -1,165 +1,207 @@
-//! The lines of advice.
+//! What lines of advice say. None is longer than 300 bytes.
 
 // Where words are no command: what may stand at the word that was refused.
 
 /// A verb, the first word.
 pub(crate) const VERB: &str = "\
-sip: hint: the first word is verify, play, panel, help, lookup, helplook, moments, helpmom, audit, \
-show, convert, gen, lines or widen; sip --help tells of each\n";
+the first word is verify, play, panel, help, lookup, helplook, moments, helpmom, audit, \
+show, convert, gen, lines or widen; sip --help tells of each";
 
 /// A stream.
 pub(crate) const STREAM: &str = "\
-sip: hint: STREAM is here: PATH, text:PATH, wide:PATH or made:NUMBER:COUNT with COUNT up to \
-10000000\n";
+STREAM is PATH, text:PATH, wide:PATH or made:NUMBER:COUNT with COUNT up to \
+10000000";
 
 /// A stream that a file holds.
 pub(crate) const STORED: &str = "\
-sip: hint: STORED is here: PATH, text:PATH or wide:PATH, the stream that the run was about\n";
+STORED is PATH, text:PATH or wide:PATH, the stream that the run was about";
 
 /// A seed.
 pub(crate) const SEED: &str = "\
-sip: hint: SEED is here: a file of 32 random bytes, new ones for each run\n";
+SEED is a file of 32 random bytes, new ones for each run";
 
 /// The end of a link that brings bytes.
 pub(crate) const FROM: &str = "\
-sip: hint: FROM is here: the file or FIFO that brings the other side's bytes\n";
+FROM is the file or FIFO that brings the other side's bytes";
 
 /// The end of a link that takes bytes.
 pub(crate) const TO: &str = "\
-sip: hint: TO is here: the file or FIFO that takes the bytes for the other side\n";
+TO is the file or FIFO that takes the bytes for the other side";
 
 /// The file of the transcript.
 pub(crate) const RECORD: &str = "\
-sip: hint: RECORD is here: the file that gets the transcript, or - for none\n";
+RECORD is the file that gets the transcript, or - for none";
 
 /// A helper in the program.
-pub(crate) const HELPER: &str = "sip: hint: HELPER is here: honest, skewed or mute\n";
+pub(crate) const HELPER: &str = "HELPER is honest, skewed or mute";
 
 /// A transcript.
 pub(crate) const TRANSCRIPT: &str = "\
-sip: hint: TRANSCRIPT is here: the file that verify or play kept as its RECORD\n";
+TRANSCRIPT is the file that verify or play kept as its RECORD";
 
 /// The number that a stream is made from.
 pub(crate) const NUMBER: &str = "\
-sip: hint: NUMBER is here: below 2^64, in digits without a leading zero\n";
+NUMBER is below 2^64, in digits without a leading zero";
 
 /// How many records a made stream has.
 pub(crate) const COUNT: &str = "\
-sip: hint: COUNT is here: up to 10000000, in digits without a leading zero\n";
+COUNT is up to 10000000, in digits without a leading zero";
 
 /// A depth.
 pub(crate) const DEPTH: &str = "\
-sip: hint: DEPTH is here: from 1 to 48, in digits without a leading zero\n";
+DEPTH is from 1 to 48, in digits without a leading zero";
 
 /// A query.
 pub(crate) const QUERY: &str = "\
-sip: hint: QUERY is here: sub:LO:HI, range:SIDE:LO:HI, f2:SIDE, inner, heavy:SIDE:T or \
-share:SIDE:NUM:DEN, with LO up to HI and HI below 2^DEPTH\n";
+QUERY is sub:LO:HI, range:SIDE:LO:HI, f2:SIDE, inner, heavy:SIDE:T or share:SIDE:NUM:DEN, with LO \
+up to HI, HI below 2^DEPTH, T from 1, and NUM from 1 to DEN, which is up to 1000000";
+
+/// A lookup where a query may stand.
+pub(crate) const LOOKS: &str = "sip lookup asks index, pred and succ, of sip helplook";
+
+/// A moment where a query may stand.
+pub(crate) const POWERS: &str = "sip moments asks moment, of sip helpmom";
 
 /// A lookup.
 pub(crate) const LOOKUP: &str = "\
-sip: hint: LOOKUP is here: index:I, pred:I or succ:I, with I below 2^DEPTH\n";
+LOOKUP is index:I, pred:I or succ:I, with I below 2^DEPTH";
 
 /// A moment.
 pub(crate) const MOMENT: &str = "\
-sip: hint: MOMENT is here: moment:SIDE:K, with SIDE 0 or 1 and K from 3 to 8\n";
+MOMENT is moment:SIDE:K, with SIDE 0 or 1 and K from 3 to 8";
 
 /// The names of several helpers in the program.
 pub(crate) const HELPERS: &str = "\
-sip: hint: HELPERS is here: 1 to 16 of honest, skewed and mute, with a comma between two of them\n";
+HELPERS is 1 to 16 of honest, skewed and mute, with a comma between two of them";
 
 /// A query that is asked of several helpers.
 pub(crate) const SHARED: &str = "\
-sip: hint: QUERY is here: sub:LO:HI, range:SIDE:LO:HI, f2:SIDE, inner, heavy:SIDE:T or \
-share:SIDE:NUM:DEN, and helpers times queries come to 16 at most\n";
+QUERY is sub:LO:HI, range:SIDE:LO:HI, f2:SIDE, inner, heavy:SIDE:T or share:SIDE:NUM:DEN, with LO \
+up to HI, HI below 2^DEPTH, T from 1, and NUM from 1 to DEN, which is up to 1000000; and helpers \
+times queries come to 16 at most";
 
 /// No word.
 pub(crate) const END: &str = "\
-sip: hint: no word is here: the command ends before it, and a run has 16 queries, lookups or \
-moments at most\n";
+the command ends before it, and a run has 16 queries, lookups or \
+moments at most";
 
 // Where a record is not legal.
 
 /// The first record is none, of a file that is read as one of records of 13 bytes.
 pub(crate) const NAMED: &str = "\
-sip: hint: a stream of lines is named text:PATH, and one of wide records wide:PATH\n";
+a stream of lines is named text:PATH, and one of wide records wide:PATH";
 
 /// The stream ends inside a record.
 pub(crate) const TRUNCATED: &str = "\
-sip: hint: STREAM ends inside a record, or in a line that has no line feed\n";
+STREAM ends inside a record, or in a line that has no line feed";
 
 /// A line of another shape.
 pub(crate) const LINE: &str = "\
-sip: hint: a line is a side, an item and a number with one space between them, and ends in a line \
-feed without a carriage return\n";
+a line is a side, an item and a number with one space between them, and ends in a line \
+feed without a carriage return";
 
 /// A side above 1.
-pub(crate) const SIDE: &str = "sip: hint: a side is 0 or 1\n";
+pub(crate) const SIDE: &str = "a side is 0 or 1";
 
 /// An item outside the vector.
 pub(crate) const ITEM: &str = "\
-sip: hint: items are below 2^DEPTH: a greater DEPTH, up to 48, has room for more\n";
+items are below 2^DEPTH: a greater DEPTH, up to 48, has room for more";
+
+/// What is said behind that of a stream which is read as records of 13 bytes.
+pub(crate) const NARROW: &str = "; a stream of wide records is named wide:PATH";
 
 /// A record that adds nothing.
-pub(crate) const DELTA: &str = "sip: hint: a record that adds 0 is left out of a stream\n";
+pub(crate) const DELTA: &str = "a record that adds 0 is left out of a stream";
 
 /// A weight above the greatest.
 pub(crate) const WEIGHT: &str = "\
-sip: hint: what is added to a side comes to 1073741823 at most, signs left out: count in greater \
-units, as KiB, or begin a new stream\n";
+what is added to a side comes to 1073741823 at most, signs left out: count in greater \
+units, as KiB, or begin a new stream";
+
+// Why a file is not to be had.
+
+/// Nothing is there.
+pub(crate) const MISSING: &str = "no such file or directory";
+
+/// A directory.
+pub(crate) const DIRECTORY: &str = "it is a directory";
+
+/// Not permitted.
+pub(crate) const DENIED: &str = "permission denied";
+
+/// Another file of the command.
+pub(crate) const TAKEN: &str = "\
+it is another file of this command too, and would be emptied";
+
+/// Another reason.
+pub(crate) const OTHER: &str = "the system does not open it";
 
 // Where something else went wrong.
 
 /// A seed of fewer than 32 bytes.
 pub(crate) const SHORT: &str = "\
-sip: hint: SEED has 32 random bytes: head -c 32 /dev/urandom > SEED makes them\n";
+SEED has 32 random bytes: head -c 32 /dev/urandom > SEED makes them";
+
+/// A seed of one byte, 32 times.
+pub(crate) const EVEN: &str = "\
+SEED is one byte, 32 times: whoever guesses it can make a wrong answer pass; make another one for \
+each run with head -c 32 /dev/urandom > SEED";
+
+/// A seed that others can read.
+pub(crate) const SHARED_SEED: &str = "\
+others can read the file of SEED: if the helper can, it can make a wrong answer pass; make it with \
+umask 077";
 
 /// A seed that gives no challenges.
 pub(crate) const SPENT: &str = "\
-sip: hint: another seed is wanted: head -c 32 /dev/urandom > SEED makes one\n";
+another seed is wanted: head -c 32 /dev/urandom > SEED makes one";
+
+/// A word that is no text.
+pub(crate) const NO_TEXT: &str = "\
+a word is not UTF-8, as words have to be: give the file another name, or link it to one";
 
 /// An answer that may be too wide.
 pub(crate) const WIDE: &str = "\
-sip: hint: more than 65536 entries could be in that answer: ask for a greater T or share\n";
+more than 65536 entries could be in that answer: ask for a greater T or share";
 
 /// A moment that may be too high.
 pub(crate) const HIGH: &str = "\
-sip: hint: the weight of that side, to the power of the degree, is 2^60 or more: ask for a lower \
-degree, or count in greater units\n";
+the weight of that side, to the power of the degree, is 2^60 or more: ask for a lower \
+degree, or count in greater units";
 
 /// Bytes that are no transcript.
 pub(crate) const BROKEN: &str = "\
-sip: hint: TRANSCRIPT is a file that verify or play kept; that of a rejected run may end inside \
-a frame\n";
+TRANSCRIPT is a file that verify or play kept; that of a rejected run may end inside \
+a frame";
 
 /// Bytes that no verifier sends there.
 pub(crate) const FRAME: &str = "\
-sip: hint: FROM is TO of the other side, and TO its FROM: sip help is for sip verify, sip helplook \
-for sip lookup, and sip helpmom for sip moments\n";
+FROM is TO of the other side, and TO its FROM: sip help is for sip verify, sip helplook \
+for sip lookup, and sip helpmom for sip moments";
 
 /// The stream failed.
 pub(crate) const FIRST: &str = "\
-sip: hint: first is STREAM or STORED, which could not be opened or read\n";
+first is STREAM or STORED, which could not be opened or read";
 
 /// The seed or the transcript failed.
 pub(crate) const SECOND: &str = "\
-sip: hint: second is SEED, or TRANSCRIPT of audit, show and convert, which could not be opened or \
-read\n";
+second is SEED, or TRANSCRIPT of audit, show and convert, which could not be opened or \
+read";
 
 /// Standard output failed.
-pub(crate) const REPORT: &str = "sip: hint: report is standard output\n";
+pub(crate) const REPORT: &str = "report is standard output";
 
 /// The record of the talk failed.
 pub(crate) const KEEP: &str = "\
-sip: hint: record is RECORD, which could not be opened or written, or is another file of the \
-command\n";
+record is RECORD, which could not be opened or written, or is another file of the \
+command";
 
 /// The link failed.
 pub(crate) const LINK: &str = "\
-sip: hint: FROM or TO could not be opened, read or written, TO is another file of the command, or \
-the other side has left\n";
+FROM or TO could not be opened, read or written, TO is another file of the command, or \
+the other side has left";
 
 /// The verifier left.
 pub(crate) const LEFT: &str = "\
-sip: hint: the other side, sip verify, sip lookup or sip moments, left before its end and says \
-why\n";
+the other side, sip verify, sip lookup or sip moments, left before its end and says \
+why";

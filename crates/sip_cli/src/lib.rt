@@ -13,6 +13,7 @@ mod hint_text;
 pub mod laws;
 mod lookup;
 mod moment;
+mod noted;
 mod page;
 mod page_text;
 mod panelling;
@@ -21,6 +22,8 @@ mod plan;
 mod playing;
 mod progress;
 mod query;
+mod quoting;
+mod reason_text;
 mod shape;
 mod sparing;
 mod status_text;
@@ -31,10 +34,11 @@ mod top;
 mod verb;
 mod words;
 
-pub use advice::hint;
+pub use advice::{HINT_ROOM, HintLine, has_seed, hint};
 pub use command::{Command, read_words};
 pub use exit::{Ending, exit_code, finish, status_without_words};
 pub use helper_name::HelperName;
+pub use noted::{Noted, SeedLook, Trouble, Unopened};
 pub use page::{page_of, page_without_file, write_page};
 pub use page_text::{
     AUDIT_PART, CONVERT_PART, GEN_PART, HELP, HELP_PART, HELPLOOK_PART, HELPMOM_PART, LINES_PART,

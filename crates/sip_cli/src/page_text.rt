@@ -315,11 +315,12 @@ LIMITS
 
 MESSAGES
 
-A run that does not end well says so in one line on standard error. A second
-line, which begins with sip: hint:, may say what can be done. Words and records
+A run that does not end well says so in one line on standard error. A line that
+begins with sip: hint: may follow, and says what can be done. Words and records
 are counted from 0: word 0 is the command, and record N of a text is line N + 1.
 A reply that is rejected has its line among the answers: rejected query K round
-J REASON, with K counted from 1. REASONS say what a reason means.
+J REASON, with K counted from 1. REASONS say what a reason means, as does a line
+that begins with sip: hint: and stands alone.
 
   sip: usage at word N
       Word N cannot stand there or is missing. The words before it are the

@@ -1,7 +1,9 @@
 //! What stands at each word of a command.
 
-ghost use Rattle.std.specs.Prelude.{◌≡◌};
-ghost use Rattle.sip_cli.specs.Hints.{asked_by, behind_asked, place_at, place_hint, places};
+ghost use Rattle.std.specs.Prelude.{◌≡◌, ◌≤◌, length, IfSome};
+ghost use Rattle.std.specs.Option.{option_copied};
+ghost use Rattle.sip_cli.specs.Hints.{asked_by, behind_asked, is_lookup, most_said, other_hint};
+ghost use Rattle.sip_cli.specs.Hints.{place_at, place_hint, places, query_hint, role_name};
 
 use crate::hint_text as text;
 use crate::verb::Verb;
@@ -149,9 +151,27 @@ impl Role {
         }
     }
 
-    /// What may stand there.
-    pub(crate) fn hint(self) -> &'static str
-        ensures { result.now ≡ place_hint self }
+    /// What it is called among the words.
+    pub(crate) fn name(self) -> &'static str
+        ensures name { result.now ≡ role_name self }
+        ensures short { length result.now ≤ 10 }
+    {
+        match self {
+            Role::Stream => "STREAM",
+            Role::Stored => "STORED",
+            Role::Seed => "SEED",
+            Role::From => "FROM",
+            Role::To => "TO",
+            Role::Record => "RECORD",
+            Role::Transcript => "TRANSCRIPT",
+            _ => "FILE",
+        }
+    }
+
+    /// What may stand there, where this word was refused, or one is missing.
+    pub(crate) fn hint(self, word: Option<&str>) -> &'static str
+        ensures hint { result.now ≡ place_hint self (option_copied word.entry) }
+        ensures short { length result.now ≤ most_said }
     {
         match self {
             Role::Verb => text::VERB,
@@ -166,12 +186,46 @@ impl Role {
             Role::Number => text::NUMBER,
             Role::Count => text::COUNT,
             Role::Depth => text::DEPTH,
-            Role::Query => text::QUERY,
+            Role::Query => query_hint(word, text::QUERY),
             Role::Lookup => text::LOOKUP,
             Role::Moment => text::MOMENT,
             Role::Helpers => text::HELPERS,
-            Role::Shared => text::SHARED,
+            Role::Shared => query_hint(word, text::SHARED),
             Role::End => text::END,
         }
     }
+}
+
+// What is said where a query may stand: which command asks such a word, or else the usual.
+fn query_hint(word: Option<&str>, usual: &'static str) -> &'static str
+    requires { length usual.now ≤ most_said }
+    ensures hint { result.now ≡ query_hint (option_copied word.entry) usual.now }
+    ensures short { length result.now ≤ most_said }
+{
+    match other_command(word) {
+        Some(other) => other,
+        None => usual,
+    }
+}
+
+// What asks such a word, where it begins as a lookup or a moment does.
+fn other_command(word: Option<&str>) -> Option<&'static str>
+    ensures hint { option_copied result ≡ other_hint (option_copied word.entry) }
+    ensures short { IfSome result (λ text. length text.now ≤ most_said) }
+{
+    let bytes = word?.as_bytes();
+    if is_lookup(bytes) {
+        Some(text::LOOKS)
+    } else if bytes.starts_with(b"moment:") {
+        Some(text::POWERS)
+    } else {
+        None
+    }
+}
+
+// Whether a word begins as one that asks a lookup does.
+fn is_lookup(bytes: &[u8]) -> bool
+    ensures { result ≡ is_lookup bytes.now }
+{
+    bytes.starts_with(b"index:") || bytes.starts_with(b"pred:") || bytes.starts_with(b"succ:")
 }

@@ -11,6 +11,8 @@ mod hint_tests;
 #[cfg(test)]
 mod leading_tests;
 #[cfg(test)]
+mod noted_tests;
+#[cfg(test)]
 mod page_tests;
 #[cfg(test)]
 mod page_words_tests;
