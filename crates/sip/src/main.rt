@@ -15,7 +15,7 @@ ghost use Rattle.sip_cli.specs.ToldTalk.{IsScript, talk_teller, unsaid};
 ghost use Rattle.sip_cli.specs.Words.{IsSpelled, Spells, IsRefusedAt};
 
 use sip_cli::{
-    Command, Ending, FileId, LinkOrder, Noted, OPENING_FROM, OPENING_TO, Opening, PlanFiles,
+    Command, Ending, FileId, Lines, LinkOrder, Noted, OPENING_FROM, OPENING_TO, Opening, PlanFiles,
     PortPlan, SeedLook, ToldLink, ToldSource, Trouble, Unopened, Usage, Words, finish, has_seed,
     obey, page_of, page_without_file, panel, play, ports, read_words, status_without_words,
     write_page,
@@ -130,15 +130,21 @@ fn emptied(
     noting(File::create(rt, name), opening, note)
 }
 
-/// Where the lines of `--progress` go.
-type Lines = StderrSink<Stderr>;
+/// Standard error and the system's clock, for the lines of `--progress`.
+type StderrLines = Lines<StderrSink<Stderr>, HostRuntime>;
 
-/// Standard error for the lines on the way, if they are to be written.
-fn lines(rt: &HostRuntime, tells: bool) -> Option<Lines>
+/// A source of the stream, which says how much was read.
+type Stream<S> = ToldSource<S, StderrSink<Stderr>, HostRuntime>;
+
+/// Where the lines on the way go, if they are to be written.
+fn lines(rt: &HostRuntime, tells: bool) -> Option<StderrLines>
     ensures { IsSome result ↔ IsTrue tells }
 {
     if tells {
-        Some(StderrSink::new(rt.stderr()))
+        Some(Lines {
+            sink: StderrSink::new(rt.stderr()),
+            clock: *rt,
+        })
     } else {
         None
     }
@@ -163,7 +169,7 @@ fn stream(
     opening: Opening,
     noted: &mut Noted,
     tells: bool,
-) -> Option<Box<ToldSource<FileSource, Lines>>>
+) -> Option<Box<Stream<FileSource>>>
     // What it tells it tells of the command's stream.
     ensures { IfSome result (λ told. IfSome (stream_teller told.value) (λ teller.
         teller.reading ≡ unread (stream_form command.now))) }
@@ -179,7 +185,7 @@ fn made(
     command: &Command,
     made: MadeSource,
     tells: bool,
-) -> Option<Box<ToldSource<MadeSource, Lines>>>
+) -> Option<Box<Stream<MadeSource>>>
     ensures { IfSome result (λ told. IfSome (stream_teller told.value) (λ teller.
         teller.reading ≡ unread (stream_form command.now))) }
 {
@@ -202,7 +208,7 @@ fn source(
 }
 
 /// The link, which says what it waits for.
-type Peer = ToldLink<FileLink, Lines>;
+type Peer = ToldLink<FileLink, StderrSink<Stderr>, HostRuntime>;
 
 /// Opens the two ends of the link, in the order of the plan: so two FIFOs can stand between the two
 /// sides. `None` where memory is refused.

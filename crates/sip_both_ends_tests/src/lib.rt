@@ -14,6 +14,8 @@ mod far_tests;
 #[cfg(test)]
 mod heavy_duel_tests;
 #[cfg(test)]
+mod pace_tests;
+#[cfg(test)]
 mod panel_tests;
 #[cfg(test)]
 mod play_tests;
@@ -23,3 +25,5 @@ mod progress_tests;
 mod record_tests;
 #[cfg(test)]
 mod sum_duel_tests;
+#[cfg(test)]
+mod ticking;

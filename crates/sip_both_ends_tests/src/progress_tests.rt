@@ -2,161 +2,23 @@
 ghost use Rattle.std.specs.Prelude.{◌≤◌};
 
 use crate::duel::{duel, heard, sent};
+use crate::ticking::{Ticking, said, taker};
 use sip_cli::{ToldLink, ToldSource, exit_code, read_words, run};
 use sip_command_tests::case::Case;
 use sip_command_tests::frames::*;
 use sip_command_tests::row::{At, FIRST_GIVEN, Failing, RunInput, Shown, link, source, words_of};
-use sip_ports::{Link, MemoryLink, MemorySink, MemorySource, PortStop, Source, write_whole};
+use sip_ports::{Link, MemoryLink, MemorySink, MemorySource, write_whole};
 use sip_verifier::Status;
 use std::alloc::Global;
 use std::process::Abort;
 use std::test::Fail;
 
-const MEBIBYTE: usize = 1 << 20;
-
-// Words, the byte that a stream is full of, how many MiB of it are moved, and what is said.
-type Moved<'a> = (&'a str, u8, usize, &'a str);
-
-const MOVED: &[Moved<'static>] = &[
-    ("lines s 9", 7, 0, ""),
-    (
-        "lines s 9",
-        7,
-        1,
-        "sip: progress: 0 MiB of STREAM read, 0 records\n",
-    ),
-    (
-        "gen 7 1 9",
-        7,
-        64,
-        "sip: progress: 0 MiB of STREAM read, 0 records\n",
-    ),
-    (
-        "gen 7 1 9",
-        7,
-        65,
-        "sip: progress: 0 MiB of STREAM read, 0 records\n\
-        sip: progress: 64 MiB of STREAM read, 5162220 records\n",
-    ),
-    (
-        "widen wide:s 9",
-        7,
-        129,
-        "sip: progress: 0 MiB of STREAM read, 0 records\n\
-        sip: progress: 64 MiB of STREAM read, 3947580 records\n\
-        sip: progress: 128 MiB of STREAM read, 7895160 records\n",
-    ),
-    (
-        "play text:s seed mute - 9 inner",
-        10,
-        65,
-        "sip: progress: 0 MiB of STREAM read, 0 records\n\
-        sip: progress: 64 MiB of STREAM read, 67108864 records\n",
-    ),
-    (
-        "verify text:s seed a b - 9 inner",
-        7,
-        2,
-        "sip: progress: 0 MiB of STREAM read, 0 records\n",
-    ),
-];
-
-// A source that brings a MiB in each call, which it holds too, without an end.
-#[derive(Drop)]
-struct Endless {
-    bytes: Vec<u8>,
-}
-
-impl Source for Endless {
-    ghost use Rattle.std.specs.Prelude.{None, refl};
-    ghost use Rattle.std.proofs.Common.{rules};
-
-    ghost left = { λ _. None };
-
-    ghost ahead = { λ source. source.bytes.items };
-
-    ghost faults = { λ _. 0 };
-
-    ghost wants = { λ _. 0 };
-
-    ghost is_sure = { λ _. Unit {0} };
-
-    ghost faults_fit = { λ _. Prim.search rules };
-
-    ghost wants_fit = { λ _. Prim.search rules };
-
-    ghost sure_counts = { λ _ _. refl };
-
-    fn read(&mut self, buf: &mut [u8]) -> Result<usize, PortStop> {
-        Ok(buf.len())
-    }
-
-    fn held(&self) -> &[u8] {
-        &self.bytes
-    }
-
-    fn skip(&mut self, _count: usize) {}
-}
-
-// Moves as much as that: reads it, or skips what is held.
-fn move_all<S: Source>(source: &mut S, mebibytes: usize, buffer: &mut [u8], skips: bool) -> bool {
-    for _ in 0..mebibytes {
-        if skips {
-            let held = source.held().len();
-            source.skip(held);
-        } else if source.read(buffer).is_err() {
-            return false;
-        }
-    }
-    true
-}
-
-// The bytes of the lines that were said.
-fn said(lines: Option<&MemorySink>) -> &[u8] {
-    match lines {
-        Some(sink) => sink.bytes(),
-        None => b"",
-    }
-}
-
-// What takes lines: the calls of these numbers fail.
-fn taker(alloc: Global, fails: Vec<u64>) -> Option<MemorySink> {
-    Some(MemorySink::new(alloc, 10_000, fails))
-}
-
-fn check_moved(rt: &impl Abort, alloc: Global, rows: &[Moved], skips: bool) -> Result<(), Fail> {
-    for &(name, byte, mebibytes, want) in rows {
-        let command = read_words(&words_of(alloc, name)?)?;
-        let mut buffer = vec![in alloc; byte; MEBIBYTE]?;
-        let endless = Endless {
-            bytes: buffer.clone()?,
-        };
-        let mut told = ToldSource::new(&command, endless, taker(alloc, Vec::new(alloc)));
-        let case = Case {
-            name,
-            number: mebibytes as u64,
-        };
-        case.holds(move_all(&mut told, mebibytes, &mut buffer, skips))
-            .expect(rt, "a case");
-        case.writes(said(told.lines()), want.as_bytes())
-            .expect(rt, "a case");
-    }
-    Ok(())
-}
-
-#[test]
-fn a_line_comes_once_in_64_mebibytes(rt: HostRuntime) -> Result<(), Fail> {
-    let alloc = rt.alloc();
-    check_moved(&rt, alloc, MOVED, false)?;
-    check_moved(&rt, alloc, MOVED, true)
-}
-
 // What a run showed over ports that tell.
 #[derive(Drop)]
 struct Told {
     status: Status,
-    first: ToldSource<MemorySource, MemorySink>,
-    peer: ToldLink<MemoryLink, MemorySink>,
+    first: ToldSource<MemorySource, MemorySink, Ticking>,
+    peer: ToldLink<MemoryLink, MemorySink, Ticking>,
     report: MemorySink,
     keep: MemorySink,
 }
@@ -176,8 +38,8 @@ fn run_told(
     let command = read_words(&words)?;
     let first = source(alloc, given.stream, chunk, failing, At::First)?;
     let peer = link(alloc, given.replies, chunk, failing)?;
-    let mut first = ToldSource::new(&command, first, taker(alloc, fails.to_vec(alloc)?));
-    let mut peer = ToldLink::new(&command, peer, taker(alloc, fails.to_vec(alloc)?));
+    let mut first = ToldSource::new(&command, first, taker(alloc, fails.to_vec(alloc)?, None));
+    let mut peer = ToldLink::new(&command, peer, taker(alloc, fails.to_vec(alloc)?, None));
     let mut second = source(alloc, given.seed, chunk, None, At::Second)?;
     let mut report = MemorySink::new(alloc, chunk, Vec::new(alloc));
     let mut keep = MemorySink::new(alloc, chunk, Vec::new(alloc));
@@ -317,7 +179,8 @@ const OTHERS: &[(RunInput<'static>, Lines<'static>)] = &[
     ),
 ];
 
-const HEARD_NOTHING: &str = "sip: progress: waiting for the other side, 0 MiB of FROM read\n";
+pub(crate) const HEARD_NOTHING: &str =
+    "sip: progress: waiting for the other side, 0 MiB of FROM read\n";
 
 const HEARING: Lines<'static> = Lines {
     stream: "",
@@ -397,7 +260,7 @@ const ASK_SUCC_1: [u8; 12] = [0x21, 0, 9, 3, 0, 0, 0, 0, 0, 0, 0, 1];
 
 const ASK_INDEX_0: [u8; 12] = [0x21, 0, 9, 1, 0, 0, 0, 0, 0, 0, 0, 0];
 
-const ASK_MOMENT_3: [u8; 5] = [0x24, 0, 2, 0, 3];
+pub(crate) const ASK_MOMENT_3: [u8; 5] = [0x24, 0, 2, 0, 3];
 
 const FOUND_2: [u8; 12] = [0x22, 0, 9, 1, 0, 0, 0, 0, 0, 0, 0, 2];
 
@@ -438,7 +301,7 @@ fn lookups_and_moments_are_told_by_their_number(rt: HostRuntime) -> Result<(), F
     let alloc = rt.alloc();
     for &(name, frames, want) in ASKING {
         let peer = link(alloc, &[&THREE_RECORDS], 10_000, None)?;
-        let lines = taker(alloc, Vec::new(alloc));
+        let lines = taker(alloc, Vec::new(alloc), None);
         let command = read_words(&words_of(alloc, name)?)?;
         let mut told = ToldLink::new(&command, peer, lines);
         let mut moved = true;

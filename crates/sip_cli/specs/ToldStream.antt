@@ -1,6 +1,6 @@
--- What is told of a stream that is read.
-use Rattle.std.specs.Prelude.{◌≡◌, ℕ, ◌+◌, ◌-◌, ◌/◌, ◌^◌, ◌==◌, min, nat_le, if◌then◌else◌, List}
-use Rattle.std.specs.Prelude.{[], length, take, Result, MatchResult}
+-- What is told of a stream that is read. `now` is the second that a clock says, which may be any.
+use Rattle.std.specs.Prelude.{◌≡◌, ℕ, ◌+◌, ◌-◌, ◌/◌, ◌^◌, ◌==◌, ◌||◌, min, nat_le, Bool, List, []}
+use Rattle.std.specs.Prelude.{if◌then◌else◌, length, take, Result, MatchResult}
 use Rattle.std.specs.declared.option.Option.{Option}
 use Rattle.std.specs.List.{count_by}
 use Rattle.sip_ports.specs.declared.port.TalkEvent.{TalkEvent}
@@ -33,7 +33,7 @@ stream_form (command.Panel task names) = task.form
 
 -- nothing was read, and a line is due
 abbrev pub unread : Form → Reading
-unread form = record { form = form; bytes = 0; feeds = 0; next = 0 }
+unread form = record { form = form; bytes = 0; feeds = 0; next = 0; late = 0 }
 
 -- how many records so many bytes have, with so many line feeds among them
 abbrev pub records_in : Form → ℕ → ℕ → ℕ
@@ -54,41 +54,49 @@ read_more bytes r = record {
   bytes = min (r.bytes + length bytes) (2 ^ 64 - 1);
   feeds = min (r.feeds + feeds_in r.form bytes) (2 ^ 64 - 1);
   next = r.next;
+  late = r.late;
 }
 
--- the line before a read or a skip, if one is due
-abbrev pub line_before : Reading → List ℕ
-line_before r =
-    if nat_le r.next r.bytes then stream_line r.bytes (records_in r.form r.bytes r.feeds) else []
+-- a line is due by what was read, or by the clock
+abbrev pub is_due : ℕ → Reading → Bool
+is_due now r = nat_le r.next r.bytes || nat_le r.late now
 
--- the next one is due 64 MiB behind it
-abbrev pub line_said : Reading → Reading
-line_said r = record {
+-- the line before a read or a skip, if one is due
+abbrev pub line_before : ℕ → Reading → List ℕ
+line_before now r =
+    if is_due now r then stream_line r.bytes (records_in r.form r.bytes r.feeds) else []
+
+-- the next one is due 64 MiB behind it, or three seconds
+abbrev pub line_said : ℕ → Reading → Reading
+line_said now r = record {
   form = r.form;
   bytes = r.bytes;
   feeds = r.feeds;
-  next = if nat_le r.next r.bytes then min (r.bytes + 2 ^ 26) (2 ^ 64 - 1) else r.next;
+  next = if is_due now r then min (r.bytes + 2 ^ 26) (2 ^ 64 - 1) else r.next;
+  late = if is_due now r then min (now + 3) (2 ^ 64 - 1) else r.late;
 }
 
 -- the source that is read
-abbrev pub told_source : {S W : Type 0} → ToldSource S W → S
+abbrev pub told_source : {S W C : Type 0} → ToldSource S W C → S
 told_source told = told.source
 
 -- what says the lines
-abbrev pub stream_teller : {S W : Type 0} → ToldSource S W → Option (StreamTeller W)
+abbrev pub stream_teller : {S W C : Type 0} → ToldSource S W C → Option (StreamTeller W C)
 stream_teller told = told.teller
 
 -- The line that was due was written before the read, and then what came was counted.
-pub record TellsRead {E W : Type 0} (talk : W → Option (List TalkEvent)) (faults wants : W → ℕ)
-    (is_sure : W → Type 0) (result : Result ℕ E) (buf : List ℕ) (old new : StreamTeller W)
-    : Type 0 where
-  pub said : Says talk faults wants is_sure old.lines new.lines (line_before old.reading)
+pub record TellsRead {E W C : Type 0} (talk : W → Option (List TalkEvent)) (faults wants : W → ℕ)
+    (is_sure : W → Type 0) (now : ℕ) (result : Result ℕ E) (buf : List ℕ)
+    (old new : StreamTeller W C) : Type 0 where
+  pub said : Says talk faults wants is_sure old.lines.sink new.lines.sink
+      (line_before now old.reading)
   pub counted : MatchResult result
-      (λ n. new.reading ≡ read_more (take n buf) (line_said old.reading))
-      (λ _. new.reading ≡ line_said old.reading)
+      (λ n. new.reading ≡ read_more (take n buf) (line_said now old.reading))
+      (λ _. new.reading ≡ line_said now old.reading)
 
 -- The line that was due was written before the skip, and then the bytes were counted.
-pub record TellsSkip {W : Type 0} (talk : W → Option (List TalkEvent)) (faults wants : W → ℕ)
-    (is_sure : W → Type 0) (bytes : List ℕ) (old new : StreamTeller W) : Type 0 where
-  pub said : Says talk faults wants is_sure old.lines new.lines (line_before old.reading)
-  pub counted : new.reading ≡ read_more bytes (line_said old.reading)
+pub record TellsSkip {W C : Type 0} (talk : W → Option (List TalkEvent)) (faults wants : W → ℕ)
+    (is_sure : W → Type 0) (now : ℕ) (bytes : List ℕ) (old new : StreamTeller W C) : Type 0 where
+  pub said : Says talk faults wants is_sure old.lines.sink new.lines.sink
+      (line_before now old.reading)
+  pub counted : new.reading ≡ read_more bytes (line_said now old.reading)

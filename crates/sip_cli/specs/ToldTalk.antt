@@ -1,7 +1,8 @@
--- What is told of a talk: which reply is waited for, by the frames that were sent.
-use Rattle.std.specs.Prelude.{◌≡◌, ◌≢◌, ◌⊎◌, ℕ, ◌+◌, ◌-◌, ◌^◌, ◌==◌, ◌&&◌, ◌≤◌, ◌<◌, min, nat_le}
-use Rattle.std.specs.Prelude.{not, Bool, true, false, if◌then◌else◌, List, [], length, Result, Ok}
-use Rattle.std.specs.Prelude.{MatchResult, Some}
+-- What is told of a talk: which reply is waited for, by the frames that were sent. `now` is the
+-- second that a clock says, which may be any.
+use Rattle.std.specs.Prelude.{◌≡◌, ◌≢◌, ◌⊎◌, ℕ, ◌+◌, ◌-◌, ◌^◌, ◌==◌, ◌&&◌, ◌||◌, ◌≤◌, ◌<◌, min}
+use Rattle.std.specs.Prelude.{nat_le, not, Bool, true, false, if◌then◌else◌, List, [], length}
+use Rattle.std.specs.Prelude.{Result, Ok, MatchResult, Some}
 use Rattle.std.specs.declared.option.Option.{Option}
 use Rattle.std.specs.List.{slice_get}
 use Rattle.sip_ports.specs.declared.port.TalkEvent.{TalkEvent}
@@ -28,7 +29,7 @@ IsScript _ script = script.queries.items ≡ []
 
 -- nothing was said
 abbrev pub unsaid : Turn
-unsaid = record { query = 0; round = 0; is_due = false; rest = 0; heard = 0; next = 0 }
+unsaid = record { query = 0; round = 0; is_due = false; rest = 0; heard = 0; next = 0; late = 0 }
 
 -- these bytes are the frame of a query
 abbrev pub IsFrameOf : Version → List ℕ → Query → Type 0
@@ -58,6 +59,7 @@ awaits query round t = record {
   rest = t.rest;
   heard = t.heard;
   next = t.next;
+  late = t.late;
 }
 
 -- A frame begins: behind a query its first reply comes next, behind the Ask of a lookup or of a
@@ -83,6 +85,7 @@ with_rest rest t = record {
   rest = rest;
   heard = t.heard;
   next = t.next;
+  late = t.late;
 }
 
 -- So many bytes of the buffer were sent: of the frame under way, or of one that is all of it.
@@ -92,25 +95,26 @@ pub record SendsOn (script : Script) (buf : List ℕ) (count : ℕ) (old new : T
       × (new ≡ with_rest (length buf - count) begun)
   pub under_way : 0 < old.rest → new ≡ with_rest (old.rest - count) old
 
--- it answers, and 64 MiB were heard since its last line, or nothing yet
-abbrev pub hears_on : Turn → Bool
-hears_on t = not t.is_due && (t.query == 0) && nat_le t.next t.heard
+-- it answers, and a line is due by what it heard, or by the clock
+abbrev pub hears_on : ℕ → Turn → Bool
+hears_on now t = not t.is_due && (t.query == 0) && (nat_le t.next t.heard || nat_le t.late now)
 
 -- the line before a receive, if one is due
-abbrev pub line_before : Turn → List ℕ
-line_before t =
+abbrev pub line_before : ℕ → Turn → List ℕ
+line_before now t =
     if t.is_due then reply_line t.query t.round
-    else if hears_on t then from_line t.heard else []
+    else if hears_on now t then from_line t.heard else []
 
--- a reply has one line, and a side that answers the next one 64 MiB later
-abbrev pub line_said : Turn → Turn
-line_said t = record {
+-- a reply has one line, and a side that answers the next one 64 MiB later, or three seconds
+abbrev pub line_said : ℕ → Turn → Turn
+line_said now t = record {
   query = t.query;
   round = t.round;
   is_due = false;
   rest = t.rest;
   heard = t.heard;
-  next = if hears_on t then min (t.heard + 2 ^ 26) (2 ^ 64 - 1) else t.next;
+  next = if hears_on now t then min (t.heard + 2 ^ 26) (2 ^ 64 - 1) else t.next;
+  late = if hears_on now t then min (now + 3) (2 ^ 64 - 1) else t.late;
 }
 
 -- so many bytes more were heard
@@ -122,28 +126,31 @@ heard_more count t = record {
   rest = t.rest;
   heard = min (t.heard + count) (2 ^ 64 - 1);
   next = t.next;
+  late = t.late;
 }
 
 -- the link that is used
-abbrev pub told_link : {L W : Type 0} → ToldLink L W → L
+abbrev pub told_link : {L W C : Type 0} → ToldLink L W C → L
 told_link told = told.link
 
 -- what says the lines
-abbrev pub talk_teller : {L W : Type 0} → ToldLink L W → Option (TalkTeller W)
+abbrev pub talk_teller : {L W C : Type 0} → ToldLink L W C → Option (TalkTeller W C)
 talk_teller told = told.teller
 
 -- Nothing was written of a write, and what it sent is known.
-pub record TellsWrite {E W : Type 0} (result : Result ℕ E) (buf : List ℕ)
-    (old new : TalkTeller W) : Type 0 where
+pub record TellsWrite {E W C : Type 0} (result : Result ℕ E) (buf : List ℕ)
+    (old new : TalkTeller W C) : Type 0 where
   pub lines : new.lines ≡ old.lines
   pub script : new.script ≡ old.script
   pub turn : MatchResult result (λ n. SendsOn old.script buf n old.turn new.turn)
       (λ _. new.turn ≡ old.turn)
 
 -- The line that was due was written before the receive.
-pub record TellsReceive {E W : Type 0} (talk : W → Option (List TalkEvent)) (faults wants : W → ℕ)
-    (is_sure : W → Type 0) (result : Result ℕ E) (old new : TalkTeller W) : Type 0 where
-  pub said : Says talk faults wants is_sure old.lines new.lines (line_before old.turn)
+pub record TellsReceive {E W C : Type 0} (talk : W → Option (List TalkEvent))
+    (faults wants : W → ℕ) (is_sure : W → Type 0) (now : ℕ) (result : Result ℕ E)
+    (old new : TalkTeller W C) : Type 0 where
+  pub said : Says talk faults wants is_sure old.lines.sink new.lines.sink
+      (line_before now old.turn)
   pub script : new.script ≡ old.script
-  pub turn : MatchResult result (λ n. new.turn ≡ heard_more n (line_said old.turn))
-      (λ _. new.turn ≡ line_said old.turn)
+  pub turn : MatchResult result (λ n. new.turn ≡ heard_more n (line_said now old.turn))
+      (λ _. new.turn ≡ line_said now old.turn)

@@ -47,7 +47,7 @@ pub use page_text::{
 pub use panelling::panel;
 pub use plan::{LinkOrder, Opening, PortPlan, ports};
 pub use playing::play;
-pub use progress::{OPENING_FROM, OPENING_TO};
+pub use progress::{Lines, OPENING_FROM, OPENING_TO};
 pub use sparing::{FileId, PlanFiles};
 pub use status_text::status_line;
 pub use told_link::ToldLink;

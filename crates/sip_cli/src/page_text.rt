@@ -268,8 +268,8 @@ USAGE
   sip --version              prints the version, and so does sip -V
   sip --progress COMMAND ..  does the command, and says on standard error how
                              far it is: how much of STREAM was read, before it
-                             is read and after each 64 MiB of it, and before
-                             each wait for the other side
+                             is read and after each 64 MiB of it or three
+                             seconds, and before each wait for the other side
 
 Behind the name of a command --help and -h print its part of this page, as sip
 verify --help does; behind show and convert they name a file, if there is one.
@@ -290,12 +290,12 @@ as /dev/null, may stand at several words.
 
 KEEPING THE SEED
 
-Keep it where the helper cannot read it, make a new one for each run (head -c 32
-/dev/urandom > today.seed), and throw it away after the run: a helper that knows
-the challenges can make a wrong answer pass. A run tells its helper nearly all
-of them, reply by reply, so that a seed is good for one run alone. RECORD has
-them too, from the run's beginning on: keep it like the seed until the run has
-ended.
+Keep it where the helper cannot read it (umask 077), make a new one for each run
+(head -c 32 /dev/urandom > today.seed), and throw it away after the run: a
+helper that knows the challenges can make a wrong answer pass. A run tells its
+helper nearly all of them, reply by reply, so that a seed is good for one run
+alone. RECORD has them too, from the run's beginning on: keep it like the seed
+until the run has ended.
 
 LIMITS
 
@@ -383,7 +383,7 @@ that begins with sip: hint: and stands alone.
   sip: progress: waiting for the other side, N MiB of FROM read
       With --progress alone, and in front of all other lines. FILE is FROM or
       TO. K and J are those of a rejected reply. The last line is that of a
-      helper, before it hears anything and after each 64 MiB.
+      helper, before it hears anything and after each 64 MiB or three seconds.
 
   sip: out of memory
       Memory ran out. A helper keeps each item that is not 0, and sip verify an

@@ -7,9 +7,13 @@ use crate::status_text::{ROOM, numbered};
 use arrayvec::ArrayVec;
 use sip_ports::{Sink, write_whole};
 use sip_stream::text::{put, put_number};
+use std::time::Clock;
 
-/// So many bytes pass between two lines, at least.
+/// Behind so many bytes more the next line is due.
 pub(crate) const STEP: u64 = 1 << 26;
+
+/// And so many seconds behind the last one, where fewer bytes come.
+pub(crate) const PAUSE: u64 = 3;
 
 const MEBIBYTE: u64 = 1 << 20;
 
@@ -72,6 +76,25 @@ pub(crate) fn from_line(bytes: u64) -> ArrayVec<u8, ROOM>
         bytes / MEBIBYTE,
         b" MiB of FROM read",
     )
+}
+
+/// What takes the lines of a run that says how far it is, and the clock that says when one is late.
+#[derive(Drop)]
+pub struct Lines<W: Sink + Drop, C: Clock + Drop> {
+    /// What takes the lines.
+    pub sink: W,
+    /// The clock, of which the monotonic time counts.
+    pub clock: C,
+}
+
+impl<W: Sink + Drop, C: Clock + Drop> Lines<W, C> {
+    /// The second that the clock says; 0 where it cannot be read.
+    pub(crate) fn second(&self) -> u64 {
+        match self.clock.monotonic() {
+            Ok(time) => time.as_secs(),
+            Err(_) => 0,
+        }
+    }
 }
 
 /// Writes a line. That it could not be written changes nothing.

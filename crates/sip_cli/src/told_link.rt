@@ -14,11 +14,12 @@ ghost use Rattle.sip_cli.specs.ToldTalk.{hears_on, line_before, line_said, talk_
 ghost use Rattle.sip_cli.specs.ToldTalk.{unsaid};
 
 use crate::Command;
-use crate::progress::{STEP, from_line, reply_line, say};
+use crate::progress::{Lines, PAUSE, STEP, from_line, reply_line, say};
 use arrayvec::ArrayVec;
 use sip_ports::{Link, PortStop, Sink};
 use sip_vector::Query;
 use sip_wire::{MOST_QUERIES, Message, Place, Version, frame_length, read};
+use std::time::Clock;
 
 /// The first byte of the frame of a query.
 const QUERY: u8 = 0x04;
@@ -124,9 +125,11 @@ struct Turn {
     is_due: bool,
     // How many bytes of the frame under way are still to be sent.
     rest: usize,
-    // How many bytes were heard, and at how many the next line of a side that answers is due.
+    // How many bytes were heard, and at how many, or at which second, the next line of a side that
+    // answers is due.
     heard: u64,
     next: u64,
+    late: u64,
 }
 
 impl Turn {
@@ -141,6 +144,7 @@ impl Turn {
             rest: 0,
             heard: 0,
             next: 0,
+            late: 0,
         }
     }
 
@@ -181,11 +185,11 @@ impl Turn {
         self.rest = self.rest.saturating_sub(count);
     }
 
-    // Whether the line of a side that answers is due.
-    fn hears_on(&self) -> bool
-        ensures { result ≡ hears_on self.now }
+    // Whether the line of a side that answers is due at this second.
+    fn hears_on(&self, now: u64) -> bool
+        ensures { result ≡ hears_on now self.now }
     {
-        !self.is_due && self.query == 0 && self.next <= self.heard
+        !self.is_due && self.query == 0 && (self.next <= self.heard || self.late <= now)
     }
 
     // So many bytes more were heard.
@@ -198,48 +202,49 @@ impl Turn {
 
 /// What says the lines about a talk.
 #[derive(Drop)]
-struct TalkTeller<W: Sink + Drop> {
-    lines: W,
+struct TalkTeller<W: Sink + Drop, C: Clock + Drop> {
+    lines: Lines<W, C>,
     script: Script,
     turn: Turn,
 }
 
-impl<W: Sink + Drop> TalkTeller<W> {
-    // Writes the line before a receive, if one is due.
-    fn before_receive(&mut self)
-        ensures said { Says W.talk W.faults W.wants W.is_sure self.old.lines self.new.lines
-            (line_before self.old.turn) }
-        ensures turn { self.new.turn ≡ line_said self.old.turn }
+impl<W: Sink + Drop, C: Clock + Drop> TalkTeller<W, C> {
+    // Writes the line before a receive, if one is due at this second.
+    fn before_receive(&mut self, now: u64)
+        ensures said { Says W.talk W.faults W.wants W.is_sure self.old.lines.sink
+            self.new.lines.sink (line_before now self.old.turn) }
+        ensures turn { self.new.turn ≡ line_said now self.old.turn }
         ensures script { self.new.script ≡ self.old.script }
     {
         if self.turn.is_due {
             let line = reply_line(self.turn.query, self.turn.round);
-            say(&mut self.lines, line.as_slice());
+            say(&mut self.lines.sink, line.as_slice());
             self.turn.is_due = false;
-        } else if self.turn.hears_on() {
+        } else if self.turn.hears_on(now) {
             let line = from_line(self.turn.heard);
-            say(&mut self.lines, line.as_slice());
+            say(&mut self.lines.sink, line.as_slice());
             self.turn.next = self.turn.heard.saturating_add(STEP);
+            self.turn.late = now.saturating_add(PAUSE);
         }
     }
 }
 
 /// A link that says before the first receive of each reply which one it waits for: the number of
 /// the query, the lookup or the moment, and the round, as the line of a rejection has them. A side
-/// that asks nothing says how much it heard, before its first receive and where 64 MiB or more came
-/// since its last line.
+/// that asks nothing says how much it heard, before its first receive, where 64 MiB or more came
+/// since its last line, and where its clock is three seconds or more behind that.
 ///
 /// It passes on what its own link gives. It takes what is written first, and whatever is written
 /// where a frame ended, for the bytes of one frame; they may be sent in any pieces.
 #[derive(Drop)]
-pub struct ToldLink<L: Link + Drop, W: Sink + Drop> {
+pub struct ToldLink<L: Link + Drop, W: Sink + Drop, C: Clock + Drop> {
     link: L,
-    teller: Option<TalkTeller<W>>,
+    teller: Option<TalkTeller<W, C>>,
 }
 
-impl<L: Link + Drop, W: Sink + Drop> ToldLink<L, W> {
+impl<L: Link + Drop, W: Sink + Drop, C: Clock + Drop> ToldLink<L, W, C> {
     /// A link over the one of the command, and what takes the lines.
-    pub fn new(command: &Command, link: L, lines: Option<W>) -> Self
+    pub fn new(command: &Command, link: L, lines: Option<Lines<W, C>>) -> Self
         ensures link { told_link result ≡ link }
         ensures teller { MatchOption (talk_teller result) (lines ≡ None)
             (λ teller. (lines ≡ Some teller.lines) × IsScript command.now teller.script
@@ -266,26 +271,35 @@ impl<L: Link + Drop, W: Sink + Drop> ToldLink<L, W> {
     /// What took the lines.
     pub fn lines(&self) -> Option<&W>
         ensures { option_copied result
-            ≡ option_map (λ teller. teller.lines) (talk_teller self.now) }
+            ≡ option_map (λ teller. teller.lines.sink) (talk_teller self.now) }
     {
-        Some(&self.teller.as_ref()?.lines)
+        Some(&self.teller.as_ref()?.lines.sink)
     }
 
-    // Writes the line before a receive, if one is due.
-    fn before_receive(&mut self)
+    // The second that the clock says, where lines are to be said.
+    fn second(&self) -> u64 {
+        match &self.teller {
+            Some(teller) => teller.lines.second(),
+            None => 0,
+        }
+    }
+
+    // Writes the line before a receive, if one is due at this second.
+    fn before_receive(&mut self, now: u64)
         ensures link { self.new.link ≡ self.old.link }
         ensures told { IfTold self.old.teller self.new.teller (λ old new.
-            Says W.talk W.faults W.wants W.is_sure old.lines new.lines (line_before old.turn)
-            × (new.turn ≡ line_said old.turn) × (new.script ≡ old.script)) }
+            Says W.talk W.faults W.wants W.is_sure old.lines.sink new.lines.sink
+            (line_before now old.turn)
+            × (new.turn ≡ line_said now old.turn) × (new.script ≡ old.script)) }
     {
         if let Some(teller) = &mut self.teller {
-            teller.before_receive();
+            teller.before_receive(now);
         }
     }
 }
 
 /// What its own link tells it tells.
-impl<L: Link + Drop, W: Sink + Drop> Sink for ToldLink<L, W> {
+impl<L: Link + Drop, W: Sink + Drop, C: Clock + Drop> Sink for ToldLink<L, W, C> {
     ghost use Rattle.sip_cli.specs.ToldTalk.{told_link};
 
     ghost talk = { λ told. L.talk (told_link told) };
@@ -322,7 +336,7 @@ impl<L: Link + Drop, W: Sink + Drop> Sink for ToldLink<L, W> {
     }
 }
 
-impl<L: Link + Drop, W: Sink + Drop> Link for ToldLink<L, W> {
+impl<L: Link + Drop, W: Sink + Drop, C: Clock + Drop> Link for ToldLink<L, W, C> {
     fn recv(&mut self, buf: &mut [u8]) -> Result<usize, PortStop>
         ensures bound { ReadsAtMost result buf.new }
         ensures talk { Hears (L.talk (told_link self.old)) (L.talk (told_link self.new))
@@ -331,10 +345,11 @@ impl<L: Link + Drop, W: Sink + Drop> Link for ToldLink<L, W> {
             (told_link self.old) (told_link self.new)) }
         ensures cause { HasCause L.faults L.wants L.is_sure
             (told_link self.old) (told_link self.new) result }
-        ensures told { IfTold (talk_teller self.old) (talk_teller self.new)
-            (TellsReceive W.talk W.faults W.wants W.is_sure result) }
+        ensures told { (now : ℕ) × IfTold (talk_teller self.old) (talk_teller self.new)
+            (TellsReceive W.talk W.faults W.wants W.is_sure now result) }
     {
-        self.before_receive();
+        let now = self.second();
+        self.before_receive(now);
         let count = self.link.recv(buf)?;
         if let Some(teller) = &mut self.teller {
             teller.turn.hear(count);

@@ -1,20 +1,21 @@
 //! A source that says on the way how much of the stream was read.
 
-ghost use Rattle.std.specs.Prelude.{◌≡◌, ℕ, ◌≤◌, nat_le, IfSome, MatchOption, Some, None};
+ghost use Rattle.std.specs.Prelude.{◌≡◌, ℕ, ◌≤◌, IfSome, MatchOption, Some, None};
 ghost use Rattle.std.specs.Prelude.{OnOk, OnErr, length, take};
 ghost use Rattle.std.specs.Io.{ReadsAtMost, StartsWith};
 ghost use Rattle.std.specs.Option.{option_copied, option_map};
 ghost use Rattle.std.specs.Io.KnownBytes.{Consumes, ReadConsumes};
 ghost use Rattle.sip_ports.specs.Ports.{HasCause, StandsStill};
 ghost use Rattle.sip_cli.specs.Telling.{IfTold, Says};
-ghost use Rattle.sip_cli.specs.ToldStream.{TellsRead, TellsSkip, feeds_in, line_before, line_said};
-ghost use Rattle.sip_cli.specs.ToldStream.{read_more, records_in, stream_form, stream_teller};
-ghost use Rattle.sip_cli.specs.ToldStream.{told_source, unread};
+ghost use Rattle.sip_cli.specs.ToldStream.{TellsRead, TellsSkip, feeds_in, is_due, line_before};
+ghost use Rattle.sip_cli.specs.ToldStream.{line_said, read_more, records_in, stream_form};
+ghost use Rattle.sip_cli.specs.ToldStream.{stream_teller, told_source, unread};
 
 use crate::Command;
-use crate::progress::{STEP, say, stream_line};
+use crate::progress::{Lines, PAUSE, STEP, say, stream_line};
 use sip_ports::{PortStop, Sink, Source};
 use sip_stream::Form;
+use std::time::Clock;
 
 // The form of a command's stream.
 fn form_of(command: &Command) -> Form
@@ -48,21 +49,23 @@ fn line_feeds(bytes: &[u8]) -> u64
     count
 }
 
-/// How much of a stream in a form was read, and at how many bytes the next line is due.
+/// How much of a stream in a form was read, and at how many bytes, or at which second, the next line
+/// is due.
 #[derive(Clone, Copy, Debug, PartialEq, Eq)]
 struct Reading {
     form: Form,
     bytes: u64,
     feeds: u64,
     next: u64,
+    late: u64,
 }
 
 impl Reading {
-    // Whether a line is due.
-    fn is_due(&self) -> bool
-        ensures { result ≡ nat_le self.now.next self.now.bytes }
+    // Whether a line is due at this second.
+    fn is_due(&self, now: u64) -> bool
+        ensures { result ≡ is_due now self.now }
     {
-        self.next <= self.bytes
+        self.next <= self.bytes || self.late <= now
     }
 
     // How many whole records were read.
@@ -97,38 +100,40 @@ impl Reading {
 
 /// What says the lines about a stream.
 #[derive(Drop)]
-struct StreamTeller<W: Sink + Drop> {
-    lines: W,
+struct StreamTeller<W: Sink + Drop, C: Clock + Drop> {
+    lines: Lines<W, C>,
     reading: Reading,
 }
 
-impl<W: Sink + Drop> StreamTeller<W> {
-    // Writes the line before bytes are moved, if one is due.
-    fn before_move(&mut self)
-        ensures said { Says W.talk W.faults W.wants W.is_sure self.old.lines self.new.lines
-            (line_before self.old.reading) }
-        ensures next { self.new.reading ≡ line_said self.old.reading }
+impl<W: Sink + Drop, C: Clock + Drop> StreamTeller<W, C> {
+    // Writes the line before bytes are moved, if one is due at this second.
+    fn before_move(&mut self, now: u64)
+        ensures said { Says W.talk W.faults W.wants W.is_sure self.old.lines.sink
+            self.new.lines.sink (line_before now self.old.reading) }
+        ensures next { self.new.reading ≡ line_said now self.old.reading }
     {
-        if self.reading.is_due() {
+        if self.reading.is_due(now) {
             let line = stream_line(self.reading.bytes, self.reading.records());
-            say(&mut self.lines, line.as_slice());
+            say(&mut self.lines.sink, line.as_slice());
             self.reading.next = self.reading.bytes.saturating_add(STEP);
+            self.reading.late = now.saturating_add(PAUSE);
         }
     }
 }
 
 /// A source that says on the way how much was read of the stream that it brings: before the first
-/// call that moves bytes, and before one where 64 MiB or more were moved since the last line. It
-/// gives what its own source gives, and with nothing to say the lines on it counts nothing.
+/// call that moves bytes, and before one where 64 MiB or more were moved since the last line, or
+/// where its clock is three seconds or more behind that. It gives what its own source gives, and
+/// with nothing to say the lines on it counts nothing.
 #[derive(Drop)]
-pub struct ToldSource<S: Source + Drop, W: Sink + Drop> {
+pub struct ToldSource<S: Source + Drop, W: Sink + Drop, C: Clock + Drop> {
     source: S,
-    teller: Option<StreamTeller<W>>,
+    teller: Option<StreamTeller<W, C>>,
 }
 
-impl<S: Source + Drop, W: Sink + Drop> ToldSource<S, W> {
+impl<S: Source + Drop, W: Sink + Drop, C: Clock + Drop> ToldSource<S, W, C> {
     /// A source over the one that brings the stream of the command, and what takes the lines.
-    pub fn new(command: &Command, source: S, lines: Option<W>) -> Self
+    pub fn new(command: &Command, source: S, lines: Option<Lines<W, C>>) -> Self
         ensures source { told_source result ≡ source }
         ensures teller { MatchOption (stream_teller result) (lines ≡ None)
             (λ teller. (lines ≡ Some teller.lines)
@@ -142,6 +147,7 @@ impl<S: Source + Drop, W: Sink + Drop> ToldSource<S, W> {
                     bytes: 0,
                     feeds: 0,
                     next: 0,
+                    late: 0,
                 },
             }),
             None => None,
@@ -159,20 +165,29 @@ impl<S: Source + Drop, W: Sink + Drop> ToldSource<S, W> {
     /// What took the lines.
     pub fn lines(&self) -> Option<&W>
         ensures { option_copied result
-            ≡ option_map (λ teller. teller.lines) (stream_teller self.now) }
+            ≡ option_map (λ teller. teller.lines.sink) (stream_teller self.now) }
     {
-        Some(&self.teller.as_ref()?.lines)
+        Some(&self.teller.as_ref()?.lines.sink)
     }
 
-    // Writes the line before bytes are moved, if one is due.
-    fn before_move(&mut self)
+    // The second that the clock says, where lines are to be said.
+    fn second(&self) -> u64 {
+        match &self.teller {
+            Some(teller) => teller.lines.second(),
+            None => 0,
+        }
+    }
+
+    // Writes the line before bytes are moved, if one is due at this second.
+    fn before_move(&mut self, now: u64)
         ensures source { self.new.source ≡ self.old.source }
         ensures told { IfTold self.old.teller self.new.teller (λ old new.
-            Says W.talk W.faults W.wants W.is_sure old.lines new.lines (line_before old.reading)
-            × (new.reading ≡ line_said old.reading)) }
+            Says W.talk W.faults W.wants W.is_sure old.lines.sink new.lines.sink
+            (line_before now old.reading)
+            × (new.reading ≡ line_said now old.reading)) }
     {
         if let Some(teller) = &mut self.teller {
-            teller.before_move();
+            teller.before_move(now);
         }
     }
 
@@ -189,7 +204,7 @@ impl<S: Source + Drop, W: Sink + Drop> ToldSource<S, W> {
 }
 
 /// What its own source tells it tells.
-impl<S: Source + Drop, W: Sink + Drop> Source for ToldSource<S, W> {
+impl<S: Source + Drop, W: Sink + Drop, C: Clock + Drop> Source for ToldSource<S, W, C> {
     ghost use Rattle.sip_cli.specs.ToldStream.{told_source};
 
     ghost left = { λ told. S.left (told_source told) };
@@ -218,10 +233,11 @@ impl<S: Source + Drop, W: Sink + Drop> Source for ToldSource<S, W> {
             (told_source self.old) (told_source self.new)) }
         ensures cause { HasCause S.faults S.wants S.is_sure
             (told_source self.old) (told_source self.new) result }
-        ensures told { IfTold (stream_teller self.old) (stream_teller self.new)
-            (TellsRead W.talk W.faults W.wants W.is_sure result buf.new) }
+        ensures told { (now : ℕ) × IfTold (stream_teller self.old) (stream_teller self.new)
+            (TellsRead W.talk W.faults W.wants W.is_sure now result buf.new) }
     {
-        self.before_move();
+        let now = self.second();
+        self.before_move(now);
         let count = self.source.read(buf)?;
         self.passed(&buf[..count]);
         Ok(count)
@@ -242,11 +258,12 @@ impl<S: Source + Drop, W: Sink + Drop> Source for ToldSource<S, W> {
         ensures counts { StandsStill S.faults S.wants
             (told_source self.old) (told_source self.new) }
         ensures sure { S.is_sure (told_source self.old) → S.is_sure (told_source self.new) }
-        ensures told { IfTold (stream_teller self.old) (stream_teller self.new)
-            (TellsSkip W.talk W.faults W.wants W.is_sure
+        ensures told { (now : ℕ) × IfTold (stream_teller self.old) (stream_teller self.new)
+            (TellsSkip W.talk W.faults W.wants W.is_sure now
             (take count (S.ahead (told_source self.old)))) }
     {
-        self.before_move();
+        let now = self.second();
+        self.before_move(now);
         if let Some(teller) = &mut self.teller {
             teller.reading.add(&self.source.held()[..count]);
         }

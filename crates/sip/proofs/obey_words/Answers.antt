@@ -7,7 +7,7 @@ use Rattle.sip.proofs.obey_words.Goals as goal
 pub returns-in-Ok-clause-spelled : goal.returns-in-Ok-clause-spelled
 returns-in-Ok-clause-spelled c = λ command spells none.
     subst (λ k. Ends k c.obey_command.result) (command_once _ _ command c.in-Ok.ensures.command spells)
-      (c.obey_command.ensures.spelled none)
+    (c.obey_command.ensures.spelled none)
 
 pub returns-in-Ok-clause-usage : goal.returns-in-Ok-clause-usage
 returns-in-Ok-clause-usage c = λ word. (
