@@ -52,6 +52,8 @@ def run(words, files, may_be_made=lambda name: True):
         if asks_for_text(words):
             return Outcome("Page", "", b"", None)
         return Outcome("Usage", f"sip: usage at word {usage.word}", b"", None)
+    if asks_for_text(words) and said["transcript"] not in files:
+        return Outcome("Page", "", b"", None)
     port = Ports(said, files, may_be_made)
     return {
         "verify": verify, "lookup": verify, "moments": verify, "play": play, "help": help_,

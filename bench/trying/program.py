@@ -50,6 +50,10 @@ class Program:
         os.mkfifo(os.path.join(self.fifos, FROM))
         os.mkfifo(os.path.join(self.fifos, TO))
 
+    def makes_files(self, readable):
+        """Whether others can read the files of a run."""
+        os.umask(0o022 if readable else 0o077)
+
     def start(self, words):
         for written in (self.out, self.err):
             os.ftruncate(written, 0)

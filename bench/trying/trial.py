@@ -9,6 +9,7 @@ from collections import Counter
 from typing import Callable, NamedTuple
 
 from harness.programs import proved
+from oracle.advice import advice
 from oracle.runs import behind_progress, run
 from oracle.words import Usage, read_words
 
@@ -88,6 +89,9 @@ class Trial:
         over_fifos = bool(self.group.fifos) and chance.one_in(self.group.fifos)
         files = {**case.files, FROM: case.data} if case.data is not None else case.files
         outcome = run(case.words, files, may_be_made)
+        readable = chance.one_in(2)
+        self.program.makes_files(readable)
+        hints = advice(case.words, files, outcome, may_be_made, readable)
         if over_fifos and outcome.to is not None:
             size = len(case.data)
             cuts = sorted(chance.randint(0, size) for _ in range(chance.choice((0, 1, 3, 20))))
@@ -99,7 +103,7 @@ class Trial:
                 # What stood there stays as it was.
                 outcome = outcome._replace(to=files.get(to.decode(errors="replace")))
         lost = [name for name in read_by(case.words) if name in ran.changed]
-        found = [*compared(outcome, ran), *self.group.also(case, ran.report)]
+        found = [*compared(outcome, ran), *advised(hints, ran), *self.group.also(case, ran.report)]
         found += [f"it changes {name}, which it reads" for name in lost]
         if found and self.settings.keep:
             keep(os.path.join(self.settings.keep, name.replace(" ", "-")), case, files)
@@ -141,6 +145,21 @@ def read_by(words):
     stream = said.get("stream", said.get("stored"))
     path = stream.path if stream and stream.form != "made" else None
     return {said.get("seed"), said.get("from"), said.get("transcript"), path} - {None}
+
+
+def advised(hints, ran):
+    """Which lines of advice a run was not given, each by how it begins and what it says."""
+    lines = [line for line in ran.said.split(b"\n") if line.startswith(b"sip: hint: ")]
+    if ran.code is None:
+        return
+    if len(lines) != len(hints):
+        yield f"its advice is {lines!r}, not {hints!r}"
+        return
+    for line, (start, *said) in zip(lines, hints):
+        if not line.startswith(start.encode()) or any(it.encode() not in line for it in said):
+            yield f"it is advised {line!r}, not {start!r} and {said!r}"
+        if any(not 32 <= byte < 127 for byte in line):
+            yield f"it is advised {line!r}, which has more than printed ASCII"
 
 
 def compared(outcome, ran):
