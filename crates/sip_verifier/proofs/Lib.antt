@@ -1,6 +1,7 @@
 mod Seating
 mod SeatsRaised
 pub mod SeatTotals
+pub mod HeavyNegatives
 pub mod WideSeats
 pub mod WideQueries
 pub mod FramesFit

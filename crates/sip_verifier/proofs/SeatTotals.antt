@@ -57,7 +57,7 @@ root_total p block hash total numbers stands =
 
 -- ---- a sum behind more updates
 
-abbrev size : Update → ℕ
+abbrev pub size : Update → ℕ
 size u = nat_abs u.delta
 
 light_after : (updates : List Update) (total : ℤ) (w k : ℕ) → nat_abs total ≤ w → nat_abs (total_after total (take k updates)) ≤ w + sum_by size updates
@@ -68,7 +68,7 @@ light_after (u ∷ updates) total w (suc k) light =
     omega (arith, light_after updates (total +ℤ u.delta) (w + size u) k next, sum_by-cons size u updates)
 
 -- a sum of deltas is no greater than their weight
-light_sum : (updates : List Update) → nat_abs (int_sum (map (λ (u : Update). u.delta) updates)) ≤ sum_by size updates
+pub light_sum : (updates : List Update) → nat_abs (int_sum (map (λ (u : Update). u.delta) updates)) ≤ sum_by size updates
 light_sum [] = omega arith
 light_sum (u ∷ updates) =
     let rest = int_sum (map (λ (v : Update). v.delta) updates) in

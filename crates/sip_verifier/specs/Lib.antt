@@ -19,6 +19,7 @@ pub mod QuerySeats
 pub mod Running
 pub mod Rooms
 pub mod Weights
+pub mod Negatives
 pub mod Widths
 pub mod Seats
 pub mod SeatNumbers

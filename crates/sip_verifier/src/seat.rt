@@ -8,6 +8,7 @@ ghost use Rattle.sip_vector.specs.Limits.{most_depth};
 ghost use Rattle.sip_vector.specs.Streams.{most_weight};
 ghost use Rattle.sip_heavy.specs.Protocol.{count_of};
 ghost use Rattle.sip_subvec.specs.Asking.{most_answer};
+ghost use Rattle.sip_verifier.specs.Negatives.{has_light};
 ghost use Rattle.sip_verifier.specs.QuerySeats.{HasRoom, StandsFor, concerns, is_seat, keeps};
 ghost use Rattle.sip_verifier.specs.Rooms.{most_nodes, most_places};
 ghost use Rattle.sip_verifier.specs.Tasks.{CanBeAsked};
@@ -165,6 +166,23 @@ impl QuerySeat {
             (Query::Share { num, den, .. }, Running::AugRoot(root)) => {
                 let total = root.total();
                 is_wide(total, share_of(total, *num, *den))
+            }
+            _ => false,
+        }
+    }
+
+    /// Whether the query is for large entries of this side, and the total that is kept is below
+    /// this weight. It is that of a stream exactly where a delta of the side was below 0.
+    pub(crate) fn has_light(&self, side: Side, weight: u64) -> bool
+        ensures { result ≡ has_light self.now side weight }
+    {
+        match (&self.query, &self.running) {
+            (
+                Query::Heavy { side: own, .. } | Query::Share { side: own, .. },
+                Running::AugRoot(root),
+            ) => {
+                let total = root.total();
+                side == *own && (total < 0 || (total as u64) < weight)
             }
             _ => false,
         }

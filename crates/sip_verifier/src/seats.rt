@@ -2,7 +2,7 @@
 
 ghost use Rattle.std.specs.Prelude.{◌≡◌, ℕ, ◌*◌, ◌<◌, ◌≤◌, ◌^◌, IsTrue, false, List, [], ◌∷◌, ◌++◌};
 ghost use Rattle.std.specs.Prelude.{length, map, take, All};
-ghost use Rattle.std.specs.List.{list_all, zip};
+ghost use Rattle.std.specs.List.{list_all, list_any, zip};
 ghost use Rattle.arrayvec.specs.ArrayVec.{array_vec_len};
 ghost use Rattle.sip_field.specs.Elements.{m61_number};
 ghost use Rattle.sip_ports.specs.Ports.{HasCause, SendsWhole};
@@ -14,15 +14,18 @@ ghost use Rattle.sip_vector.specs.Pieces.{cut};
 ghost use Rattle.sip_vector.specs.Streams.{of_side};
 ghost use Rattle.sip_wire.specs.Table.{most_queries, most_rows};
 ghost use Rattle.sip_wire.specs.Versions.{needed};
+ghost use Rattle.sip_verifier.specs.Negatives.{has_light, heavy_negatives};
 ghost use Rattle.sip_verifier.specs.QuerySeats.{HaveRoom, concerns, is_seat};
 ghost use Rattle.sip_verifier.specs.inside.Raising.{AreLeft};
 ghost use Rattle.sip_verifier.specs.Tasks.{CanBeAsked};
+ghost use Rattle.sip_verifier.specs.Weights.{AreWeights};
 
+use crate::Weights;
 use crate::seat::QuerySeat;
 use arrayvec::ArrayVec;
 use sip_field::{M61, Seat, SeedSpent, draw_challenges};
 use sip_ports::{PortStop, Sink};
-use sip_vector::{CAP, Depth, Query, Side, Update, take_side};
+use sip_vector::{CAP, Depth, Negatives, Query, Side, Update, take_side};
 use sip_wire::{MOST_QUERIES, MOST_ROWS, Version, put_ask, put_head};
 use std::marker::Model;
 
@@ -158,6 +161,29 @@ impl Seats {
             }
         }
         true
+    }
+
+    // Whether a seat for large entries of a side keeps a total below this weight.
+    fn any_light(&self, side: Side, weight: u64) -> bool
+        ensures { result ≡ list_any (λ s. has_light s side weight) self.now.seats }
+    {
+        self.seats.iter().any(|seat| seat.has_light(side, weight))
+    }
+
+    /// Which sides had a delta below 0, of those whose large entries are asked for, by the weights
+    /// of the stream that the seats stand for: a side's total is its weight where none had.
+    pub fn heavy_negatives(&self, weights: &Weights) -> Negatives
+        ensures { (depth : ℕ) (queries : List AnyQuery) (blocks : List (List ℕ))
+            (stream : List AnyUpdate)
+            → All (λ u. u.item < 2 ^ depth) stream
+            → AreSeats depth queries blocks stream self.now
+            → AreWeights stream weights.now
+            → result ≡ heavy_negatives queries stream }
+    {
+        Negatives {
+            first: self.any_light(Side::First, weights.first),
+            second: self.any_light(Side::Second, weights.second),
+        }
     }
 
     // Adds the updates of one side to each running number, those that concern it. They are gathered
