@@ -50,6 +50,7 @@ pub mod CompleteManners
 pub mod CompleteRuns
 mod RoomForAnswers
 pub mod RunPromises
+pub mod RunNegatives
 mod AnswersCounted
 mod FrameSizes
 mod TakenReplies

@@ -19,7 +19,6 @@ pub mod QuerySeats
 pub mod Running
 pub mod Rooms
 pub mod Weights
-pub mod Negatives
 pub mod Widths
 pub mod Seats
 pub mod SeatNumbers
@@ -27,6 +26,7 @@ pub mod Feeding
 pub mod Gathering
 pub mod Keeping
 pub mod GatherClause
+pub mod Negatives
 pub mod Sittings
 pub mod Given
 pub mod Asking

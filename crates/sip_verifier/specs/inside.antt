@@ -6,3 +6,4 @@ pub mod Judging
 pub mod Protocols
 pub mod Ending
 pub mod Passing
+pub mod Opening

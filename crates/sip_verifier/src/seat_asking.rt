@@ -1,7 +1,7 @@
 //! The query of a seat, asked of the helper by the check of its kind.
 
-ghost use Rattle.std.specs.Prelude.{◌≡◌, ◌≢◌, ◌≤◌, ◌*◌, ◌/◌, IsSomeAnd, ℕ, List, [], Ok, Some, length};
-ghost use Rattle.std.specs.Prelude.{IsTrue, take, vec_capacity};
+ghost use Rattle.std.specs.Prelude.{◌≡◌, ◌≢◌, ◌≤◌, ◌*◌, ◌/◌, IsSomeAnd, ℕ, List, [], Ok, Some};
+ghost use Rattle.std.specs.Prelude.{IsTrue, length, take, vec_capacity};
 ghost use Rattle.sip_field.specs.Elements.{m61_number};
 ghost use Rattle.sip_field.specs.Moduli.{m61_modulus};
 ghost use Rattle.sip_ports.specs.Ports.{Lasts};
