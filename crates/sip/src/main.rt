@@ -24,6 +24,7 @@ use sip_ports::{
     FileLink, FileSink, FileSource, NullSink, Sink, Source, StderrSink, StdoutSink, write_whole,
 };
 use sip_stream::MadeSource;
+use sip_vector::Negatives;
 use sip_verifier::Status;
 use std::fs::{self, File};
 use std::io::{Read, Stderr};
@@ -277,7 +278,17 @@ fn obey_keeping<S: Source, C: Sink>(
 {
     let mut report = StdoutSink::new(io::writer(rt));
     let second = &mut *held.second;
-    if let Some(status) = play(rt.alloc(), command, first, second, &mut report, keep) {
+    let negatives = &mut Negatives::default();
+    let played = play(
+        rt.alloc(),
+        command,
+        first,
+        second,
+        &mut report,
+        keep,
+        negatives,
+    );
+    if let Some(status) = played {
         return status;
     }
     if let Some(status) = panel(rt.alloc(), command, first, second, &mut report) {
@@ -291,6 +302,7 @@ fn obey_keeping<S: Source, C: Sink>(
         &mut *held.peer,
         &mut report,
         keep,
+        negatives,
     )
 }
 

@@ -19,6 +19,7 @@ pub mod PlayClause
 pub mod PanelWordsClause
 pub mod Statuses
 pub mod CommandClause
+pub mod Checking
 pub mod DoneClause
 pub mod Stored
 pub mod inside

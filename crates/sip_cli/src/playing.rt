@@ -1,6 +1,6 @@
 //! The command whose helper is in the program.
 
-ghost use Rattle.std.specs.Prelude.{◌≡◌, ◌≢◌, [], Some, None, IfOk, OnErr, MatchOption};
+ghost use Rattle.std.specs.Prelude.{◌≡◌, ◌≢◌, ℕ, List, [], Some, None, IfOk, OnErr, MatchOption};
 ghost use Rattle.sip_ports.specs.Ports.{Lasts};
 ghost use Rattle.std.specs.Option.{option_and_then};
 ghost use Rattle.sip_duel.specs.Story.{Keeps};
@@ -8,6 +8,7 @@ ghost use Rattle.sip_duel.specs.Told.{told_state};
 ghost use Rattle.sip_helper.specs.Turns.{fresh};
 ghost use Rattle.sip_verifier.specs.declared.task.Task.{Task as AnyTask};
 ghost use Rattle.sip_verifier.specs.Exchanges.{TakesAtMost};
+ghost use Rattle.sip_verifier.specs.Negatives.{NegativesClause};
 ghost use Rattle.sip_verifier.specs.Snapshots.{port, snapshot, telling};
 ghost use Rattle.sip_verifier.specs.Tasks.{CanBeDone};
 ghost use Rattle.sip_cli.specs.declared.helper_name.HelperName.{HelperName as AnyName};
@@ -18,6 +19,7 @@ use crate::{Command, HelperName};
 use sip_duel::{Helper, HelperLink, Honest, Mute, Skewed};
 use sip_field::OutOfMemory;
 use sip_ports::{Sink, Source};
+use sip_vector::Negatives;
 use sip_verifier::{Status, Task};
 use std::alloc::Global;
 
@@ -61,6 +63,7 @@ fn play_named<A: Source, B: Source, K: Sink, C: Sink>(
     second: &mut B,
     report: &mut K,
     keep: &mut C,
+    negatives: &mut Negatives,
 ) -> Result<Status, OutOfMemory>
     requires { CanBeDone task.now }
     ensures played { IfOk result (PlayClause task.now (name ≡ HelperName.Honest)
@@ -71,6 +74,9 @@ fn play_named<A: Source, B: Source, K: Sink, C: Sink>(
         (port B.left B.faults second.new)
         (telling talk) (port K.talk K.faults report.new)
         (port C.talk C.faults keep.new))) }
+    ensures negatives { (bytes seed : List ℕ)
+        → A.left first.old ≡ Some bytes → B.left second.old ≡ Some seed
+        → IfOk result (λ status. NegativesClause task.now bytes status negatives.new) }
     ensures unbegun { OnErr result ((first.new ≡ first.old) × (second.new ≡ second.old)
         × (report.new ≡ report.old) × (keep.new ≡ keep.old)) }
     ensures first { Lasts A.faults A.wants A.is_sure first.old first.new }
@@ -84,7 +90,8 @@ fn play_named<A: Source, B: Source, K: Sink, C: Sink>(
         HelperName::Skewed => link_to(alloc, name, skewed(alloc)?)?,
         HelperName::Mute => link_to(alloc, name, Box::new(alloc, Mute::new())?)?,
     };
-    Ok(sip_duel::play(alloc, task, first, second, &mut link, report, keep))
+    let link = &mut link;
+    Ok(sip_duel::play(alloc, task, first, second, link, report, keep, negatives))
 }
 
 /// Does a command `play`; another one gives `None`, and then no port is called.
@@ -93,7 +100,7 @@ fn play_named<A: Source, B: Source, K: Sink, C: Sink>(
 /// helper of that name, which is made here, and is closed and dropped at the end. `keep` gets the
 /// transcript of the run. Memory grows with the entries that are not 0, which the helper keeps, and
 /// with the talk, which the link keeps. Where memory is refused to the helper or the link, the run
-/// ends at once for want of it.
+/// ends at once for want of it. `negatives` gets what [`obey`](crate::obey) tells.
 #[inline(never)]
 pub fn play<A: Source, B: Source, K: Sink, C: Sink>(
     alloc: Global,
@@ -102,6 +109,7 @@ pub fn play<A: Source, B: Source, K: Sink, C: Sink>(
     second: &mut B,
     report: &mut K,
     keep: &mut C,
+    negatives: &mut Negatives,
 ) -> Option<Status>
     requires { IsSpelled command.now }
     // The seven promises, over the talk of a link that counts no fault. So the run never ends by a
@@ -117,9 +125,11 @@ pub fn play<A: Source, B: Source, K: Sink, C: Sink>(
         (λ talk. snapshot (port A.left A.faults first.new)
         (port B.left B.faults second.new)
         (telling talk) (port K.talk K.faults report.new)
-        (port C.talk C.faults keep.new)) status) }
+        (port C.talk C.faults keep.new)) status
+        × ((bytes seed : List ℕ) → A.left first.old ≡ Some bytes → B.left second.old ≡ Some seed
+        → NegativesClause task bytes status negatives.new)) }
     ensures untouched { result ≡ None → (first.new ≡ first.old) × (second.new ≡ second.old)
-        × (report.new ≡ report.old) × (keep.new ≡ keep.old) }
+        × (report.new ≡ report.old) × (keep.new ≡ keep.old) × (negatives.new ≡ negatives.old) }
 
     // Counts of faults and of wants of memory never fall, and no more than 32 bytes of the seed are
     // taken.
@@ -132,8 +142,11 @@ pub fn play<A: Source, B: Source, K: Sink, C: Sink>(
     let Command::Play(task, name) = command else {
         return None;
     };
-    match play_named(alloc, task, *name, first, second, report, keep) {
+    match play_named(alloc, task, *name, first, second, report, keep, negatives) {
         Ok(status) => Some(status),
-        Err(_) => Some(Status::OutOfMemory),
+        Err(_) => {
+            *negatives = Negatives::default();
+            Some(Status::OutOfMemory)
+        }
     }
 }

@@ -1,7 +1,9 @@
 //! The top calls.
 
-ghost use Rattle.std.specs.Prelude.{◌≡◌, ◌↔◌, ℕ};
+ghost use Rattle.std.specs.Prelude.{◌≡◌, ◌↔◌, ℕ, List, Some, MatchOption};
 ghost use Rattle.sip_ports.specs.Ports.{Lasts};
+ghost use Rattle.sip_verifier.specs.Negatives.{NegativesClause};
+ghost use Rattle.sip_cli.specs.Checking.{checked_task};
 ghost use Rattle.sip_cli.specs.DoneClause.{DoneClause, used};
 ghost use Rattle.sip_cli.specs.Words.{IsSpelled, Spells, IsRefusedAt};
 
@@ -13,6 +15,7 @@ use sip_moments::moment_stream;
 use sip_ports::{Link, Sink, Source};
 use sip_stream::Form;
 use sip_transcript::{audit, convert, show};
+use sip_vector::Negatives;
 use sip_verifier::{Status, check_stream};
 use std::alloc::Global;
 
@@ -58,6 +61,9 @@ use std::alloc::Global;
 ///
 /// `helplook FROM TO` and `helpmom FROM TO`: serve one talk of lookups, or of moments, over `peer`.
 /// Memory grows with the entries that are not 0.
+///
+/// `negatives` gets of `verify`, `play` and `panel` which sides of the stream had a delta below 0,
+/// of those whose large entries are asked for.
 pub fn obey<A: Source, B: Source, L: Link, K: Sink, C: Sink>(
     alloc: Global,
     command: &Command,
@@ -66,6 +72,7 @@ pub fn obey<A: Source, B: Source, L: Link, K: Sink, C: Sink>(
     peer: &mut L,
     report: &mut K,
     keep: &mut C,
+    negatives: &mut Negatives,
 ) -> Status
     requires { IsSpelled command.now }
     // Of `verify`, `play` and `panel` the seven promises, of `lookup` and `moments` their five, of
@@ -81,6 +88,13 @@ pub fn obey<A: Source, B: Source, L: Link, K: Sink, C: Sink>(
         (used K.talk K.faults K.wants report.old report.new)
         (used C.talk C.faults C.wants keep.old keep.new) result }
 
+    // Of a command that checks queries, which sides had a delta below 0; others leave it alone.
+    ensures negatives { MatchOption (checked_task command.now)
+        (λ task. (bytes seed : List ℕ)
+        → A.left first.old ≡ Some bytes → B.left second.old ≡ Some seed
+        → NegativesClause task bytes result negatives.new)
+        (negatives.new ≡ negatives.old) }
+
     // Counts of faults and of wants of memory never fall.
     ensures first { Lasts A.faults A.wants A.is_sure first.old first.new }
     ensures second { Lasts B.faults B.wants B.is_sure second.old second.new }
@@ -89,8 +103,12 @@ pub fn obey<A: Source, B: Source, L: Link, K: Sink, C: Sink>(
     ensures keep { Lasts C.faults C.wants C.is_sure keep.old keep.new }
 {
     match command {
-        Command::Verify(task) => check_stream(alloc, task, first, second, peer, report, keep),
-        Command::Play(task, _) => check_stream(alloc, task, first, second, peer, report, keep),
+        Command::Verify(task) => {
+            check_stream(alloc, task, first, second, peer, report, keep, negatives)
+        }
+        Command::Play(task, _) => {
+            check_stream(alloc, task, first, second, peer, report, keep, negatives)
+        }
         Command::Help => help(alloc, peer),
         Command::Audit { form } => audit(alloc, *form, first, second, report),
         Command::Show => show(alloc, second, report),
@@ -105,7 +123,9 @@ pub fn obey<A: Source, B: Source, L: Link, K: Sink, C: Sink>(
         Command::HelpLook => help_look(alloc, peer),
         Command::Moments(task) => moment_stream(alloc, task, first, second, peer, report),
         Command::HelpMoments => help_moments(alloc, peer),
-        Command::Panel(task, _) => check_stream(alloc, task, first, second, peer, report, keep),
+        Command::Panel(task, _) => {
+            check_stream(alloc, task, first, second, peer, report, keep, negatives)
+        }
     }
 }
 
@@ -141,7 +161,10 @@ pub fn run<A: Source, B: Source, L: Link, K: Sink, C: Sink>(
     ensures keep { Lasts C.faults C.wants C.is_sure keep.old keep.new }
 {
     match read_words(words) {
-        Ok(command) => obey(alloc, &command, first, second, peer, report, keep),
+        Ok(command) => {
+            let told = &mut Negatives::default();
+            obey(alloc, &command, first, second, peer, report, keep, told)
+        }
         Err(Usage { word }) => Status::Usage { word },
     }
 }

@@ -4,6 +4,7 @@ use crate::frames::ZERO_SEED;
 use crate::row::words_of;
 use sip_cli::{play, read_words};
 use sip_ports::{MemorySink, MemorySource};
+use sip_vector::Negatives;
 use sip_verifier::Status;
 use std::alloc::Global;
 use std::test::Fail;
@@ -17,6 +18,7 @@ pub struct Played {
     pub ended: Option<Status>,
     pub report: MemorySink,
     pub keep: MemorySink,
+    pub negatives: Negatives,
 }
 
 /// Runs these words over both sides.
@@ -26,6 +28,7 @@ pub fn run_play(alloc: Global, text: &str) -> Result<Played, Fail> {
     let mut second = MemorySource::new(ZERO_SEED.to_vec(alloc)?, 5, Vec::new(alloc));
     let mut report = MemorySink::new(alloc, 10_000, Vec::new(alloc));
     let mut keep = MemorySink::new(alloc, 10_000, Vec::new(alloc));
+    let mut negatives = Negatives::default();
     let ended = match read_words(&words) {
         Ok(command) => play(
             alloc,
@@ -34,6 +37,7 @@ pub fn run_play(alloc: Global, text: &str) -> Result<Played, Fail> {
             &mut second,
             &mut report,
             &mut keep,
+            &mut negatives,
         ),
         Err(_) => None,
     };
@@ -41,5 +45,6 @@ pub fn run_play(alloc: Global, text: &str) -> Result<Played, Fail> {
         ended,
         report,
         keep,
+        negatives,
     })
 }

@@ -1,9 +1,10 @@
 //! A run of the verifier against a boxed helper.
 
-ghost use Rattle.std.specs.Prelude.{◌≡◌, ◌≢◌, ◌≤◌, None, Some, []};
+ghost use Rattle.std.specs.Prelude.{◌≡◌, ◌≢◌, ◌≤◌, ℕ, List, None, Some, []};
 ghost use Rattle.std.specs.Option.{option_and_then};
 ghost use Rattle.sip_ports.specs.Ports.{Lasts};
 ghost use Rattle.sip_verifier.specs.Exchanges.{Exchange as AnyExchange, Tells, TakesAtMost};
+ghost use Rattle.sip_verifier.specs.Negatives.{NegativesClause};
 ghost use Rattle.sip_verifier.specs.Snapshots.{counts, port, snapshot, telling};
 ghost use Rattle.sip_verifier.specs.RunClause.{RunClause};
 ghost use Rattle.sip_verifier.specs.Tasks.{CanBeDone};
@@ -12,7 +13,7 @@ ghost use Rattle.sip_duel.specs.Story.{IsHonestTalk, Keeps};
 
 use crate::HelperLink;
 use sip_ports::{Sink, Source};
-use sip_vector::Depth;
+use sip_vector::{Depth, Negatives};
 use sip_verifier::{Status, Task, check_stream};
 use sip_wire::MOST_QUERIES;
 use std::alloc::Global;
@@ -24,7 +25,8 @@ use std::alloc::Global;
 /// so no answer is a fault of the peer. Where the helper is an honest one that had heard nothing,
 /// its bytes are the replies that are owed by the turns of a helper, and a good run over a link
 /// that was made for it is accepted with the stream's own answers. Want of memory alone changes
-/// that: at this end it is the answer, and the helper refuses a query.
+/// that: at this end it is the answer, and the helper refuses a query. `negatives` gets what
+/// [`check_stream`] tells.
 pub fn play<A: Source, B: Source, K: Sink, C: Sink>(
     alloc: Global,
     task: &Task,
@@ -33,6 +35,7 @@ pub fn play<A: Source, B: Source, K: Sink, C: Sink>(
     link: &mut HelperLink,
     report: &mut K,
     keep: &mut C,
+    negatives: &mut Negatives,
 ) -> Status
     requires { CanBeDone task.now }
     ensures keeps { RunClause task.now
@@ -60,6 +63,9 @@ pub fn play<A: Source, B: Source, K: Sink, C: Sink>(
         (C.faults keep.old))
         (counts (A.faults first.new) (B.faults second.new) 0 (K.faults report.new)
         (C.faults keep.new)) result }
+    ensures negatives { (bytes seed : List ℕ)
+        → A.left first.old ≡ Some bytes → B.left second.old ≡ Some seed
+        → NegativesClause task.now bytes result negatives.new }
     ensures gone { link.new.helper ≡ None }
     ensures wants { link.old.wants.count ≤ link.new.wants.count }
     ensures first { Lasts A.faults A.wants A.is_sure first.old first.new }
@@ -72,7 +78,7 @@ pub fn play<A: Source, B: Source, K: Sink, C: Sink>(
     prove!(levels >= 1 && levels <= Depth::MOST);
     let asked = task.queries.len();
     prove!(asked <= MOST_QUERIES);
-    let status = check_stream(alloc, task, first, second, link, report, keep);
+    let status = check_stream(alloc, task, first, second, link, report, keep, negatives);
     link.close_and_drop();
     status
 }

@@ -6,7 +6,7 @@ use arrayvec::ArrayVec;
 use sip_duel::{Helper, HelperLink, play};
 use sip_ports::{MemorySink, MemorySource, NullSink, Source};
 use sip_stream::Form;
-use sip_vector::{Depth, Query};
+use sip_vector::{Depth, Negatives, Query};
 use sip_verifier::{Status, Task};
 use std::alloc::Global;
 use std::test::Fail;
@@ -76,6 +76,7 @@ pub(crate) fn run_over<A: Source>(
         &mut link,
         &mut report,
         &mut NullSink::new(),
+        &mut Negatives::default(),
     );
     Ok((status, report))
 }

@@ -5,7 +5,7 @@ use arrayvec::ArrayVec;
 use sip_helper::HelperCore;
 use sip_ports::{MemoryLink, MemorySink, MemorySource, NullSink};
 use sip_stream::Form;
-use sip_vector::{Depth, Query, Side, Update};
+use sip_vector::{Depth, Negatives, Query, Side, Update};
 use sip_verifier::{Task, check_stream};
 use sip_wire::{Message, Version};
 use std::{io, str};
@@ -61,6 +61,7 @@ fn main(rt: HostRuntime) -> io::Result<()> {
     let mut link = MemoryLink::new(alloc, reply.bytes().to_vec(alloc)?, 64, Vec::new(alloc));
     let mut report = MemorySink::new(alloc, 64, Vec::new(alloc));
     let keep = &mut NullSink::new();
+    let negatives = &mut Negatives::default();
     let status = check_stream(
         alloc,
         &task,
@@ -69,6 +70,7 @@ fn main(rt: HostRuntime) -> io::Result<()> {
         &mut link,
         &mut report,
         keep,
+        negatives,
     );
     let line = str::from_utf8(report.bytes()).unwrap_or_default();
     print!(rt; "{status:?}: {line}")

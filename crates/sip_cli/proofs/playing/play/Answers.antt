@@ -1,4 +1,4 @@
-use Rattle.std.proofs.Common.{[], refl, inl, inr, subst}
+use Rattle.std.proofs.Common.{◌≡◌, [], false, true, refl, inl, inr, subst, rules}
 use Rattle.sip_cli.specs.Words.{Spells}
 use Rattle.sip_cli.proofs.PlayLemmas.{nothing_is_honest, unbegun}
 use Rattle.sip_cli.proofs.RunLemmas.{played_task}
@@ -23,4 +23,5 @@ returns-in-Err-clause-played g c =
         honest = λ is. nothing_is_honest;
         accepts = λ is x tells good none. inr (inl refl);
       },
+      λ bytes seed read drawn. record { judged = λ (judged : false ≡ true). absurd cc; other = inr (search rules) },
     )

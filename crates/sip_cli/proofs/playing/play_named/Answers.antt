@@ -33,3 +33,6 @@ returns-clause-played g c =
       honest = both.0;
       accepts = λ is x tells. both.1 is fresh x (tells_on fresh tells);
     }
+
+pub returns-clause-negatives : goal.returns-clause-negatives
+returns-clause-negatives g c = c.play.ensures.negatives

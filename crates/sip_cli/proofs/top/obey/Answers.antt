@@ -130,3 +130,45 @@ look_stream-requires g c = looked_task _ _ c.requires.1 _ c.in-Lookup.is
 
 pub moment_stream-requires : goal.moment_stream-requires
 moment_stream-requires g c = summed_task _ _ c.requires.1 _ c.in-Moments.is
+
+pub returns-in-Verify-clause-negatives : goal.returns-in-Verify-clause-negatives
+returns-in-Verify-clause-negatives g c = rw c.in-Verify.is c.check_stream.ensures.negatives
+
+pub returns-in-Play-clause-negatives : goal.returns-in-Play-clause-negatives
+returns-in-Play-clause-negatives g c = rw c.in-Play.is c.check_stream-in-Play.ensures.negatives
+
+pub returns-in-Panel-clause-negatives : goal.returns-in-Panel-clause-negatives
+returns-in-Panel-clause-negatives g c = rw c.in-Panel.is c.check_stream-in-Panel.ensures.negatives
+
+pub returns-in-Help-clause-negatives : goal.returns-in-Help-clause-negatives
+returns-in-Help-clause-negatives g c = rw c.in-Help.is refl
+
+pub returns-in-Audit-clause-negatives : goal.returns-in-Audit-clause-negatives
+returns-in-Audit-clause-negatives g c = rw c.in-Audit.is refl
+
+pub returns-in-Show-clause-negatives : goal.returns-in-Show-clause-negatives
+returns-in-Show-clause-negatives g c = rw c.in-Show.is refl
+
+pub returns-in-Convert-clause-negatives : goal.returns-in-Convert-clause-negatives
+returns-in-Convert-clause-negatives g c = rw c.in-Convert.is refl
+
+pub returns-in-Gen-clause-negatives : goal.returns-in-Gen-clause-negatives
+returns-in-Gen-clause-negatives g c = rw c.in-Gen.is refl
+
+pub returns-in-Lines-clause-negatives : goal.returns-in-Lines-clause-negatives
+returns-in-Lines-clause-negatives g c = rw c.in-Lines.is refl
+
+pub returns-in-Widen-clause-negatives : goal.returns-in-Widen-clause-negatives
+returns-in-Widen-clause-negatives g c = rw c.in-Widen.is refl
+
+pub returns-in-Lookup-clause-negatives : goal.returns-in-Lookup-clause-negatives
+returns-in-Lookup-clause-negatives g c = rw c.in-Lookup.is refl
+
+pub returns-in-HelpLook-clause-negatives : goal.returns-in-HelpLook-clause-negatives
+returns-in-HelpLook-clause-negatives g c = rw c.in-HelpLook.is refl
+
+pub returns-in-Moments-clause-negatives : goal.returns-in-Moments-clause-negatives
+returns-in-Moments-clause-negatives g c = rw c.in-Moments.is refl
+
+pub returns-in-HelpMoments-clause-negatives : goal.returns-in-HelpMoments-clause-negatives
+returns-in-HelpMoments-clause-negatives g c = rw c.in-HelpMoments.is refl
