@@ -1,8 +1,9 @@
 // Runs against the helpers in the program.
 
 use sip_command_tests::case::Case;
-use sip_command_tests::play::run_play;
+use sip_command_tests::play::{BOTH_SIDES, run_play, run_play_over};
 use sip_stream::Why;
+use sip_vector::Negatives;
 use sip_verifier::Status;
 use sip_wire::Reason;
 use std::alloc::Global;
@@ -124,4 +125,96 @@ fn check_runs(rt: &impl Abort, alloc: Global, runs: &[Run]) -> Result<(), Fail> 
 #[test]
 fn the_helper_of_each_name_plays(rt: HostRuntime) -> Result<(), Fail> {
     check_runs(&rt, rt.alloc(), RUNS)
+}
+
+// Side 0 is (3, 0, 5, 0) and side 1 is (2, 7, 0, 0), each with a delta below 0 on the way.
+const CREDITS: &[u8] = b"0 0 3\n0 2 6\n0 2 -1\n1 0 2\n1 1 8\n1 1 -1\n";
+
+// The third record is of no item at depth 2.
+const CUT_SHORT: &[u8] = b"0 2 6\n0 2 -1\n0 9 1\n";
+
+// A run over these lines: how it ends, and whether it tells of a delta below 0 of side 0, and of
+// side 1.
+struct Told<'a>(&'a str, &'a [u8], Status, bool, bool);
+
+const TOLD: &[Told<'static>] = &[
+    Told(
+        "play text:s k honest - 2 heavy:0:4",
+        CREDITS,
+        Status::Accepted,
+        true,
+        false,
+    ),
+    Told(
+        "play text:s k honest - 2 share:1:1:2",
+        CREDITS,
+        Status::Accepted,
+        false,
+        true,
+    ),
+    Told(
+        "play text:s k honest - 2 heavy:0:4 f2:1 heavy:1:7",
+        CREDITS,
+        Status::Accepted,
+        true,
+        true,
+    ),
+    // The other queries are right whatever the deltas are.
+    Told(
+        "play text:s k honest - 2 f2:0 inner sub:0:3",
+        CREDITS,
+        Status::Accepted,
+        false,
+        false,
+    ),
+    Told(
+        "play text:s k honest - 2 heavy:0:4 heavy:1:7",
+        BOTH_SIDES,
+        Status::Accepted,
+        false,
+        false,
+    ),
+    // It is told where nothing is asked, too, and where the replies are rejected.
+    Told(
+        "play text:s k mute - 2 heavy:0:10",
+        CREDITS,
+        Status::Accepted,
+        true,
+        false,
+    ),
+    Told(
+        "play text:s k mute - 2 heavy:1:2",
+        CREDITS,
+        Status::Rejected {
+            query: 1,
+            round: 0,
+            reason: Reason::Closed,
+        },
+        false,
+        true,
+    ),
+    Told(
+        "play text:s k honest - 2 heavy:0:4",
+        CUT_SHORT,
+        Status::BadStream {
+            at: 2,
+            why: Why::BadItem,
+        },
+        false,
+        false,
+    ),
+];
+
+#[test]
+fn credits_of_large_entries_are_told(rt: HostRuntime) -> Result<(), Fail> {
+    for Told(name, stream, status, first, second) in TOLD {
+        let shown = run_play_over(rt.alloc(), stream, name)?;
+        let (first, second) = (*first, *second);
+        let case = Case { name, number: 0 };
+        case.holds(shown.ended == Some(*status))
+            .expect(&rt, "a case");
+        case.holds(shown.negatives == Negatives { first, second })
+            .expect(&rt, "a case");
+    }
+    Ok(())
 }
