@@ -271,6 +271,7 @@ fn obey_keeping<S: Source, C: Sink>(
     first: &mut S,
     held: &mut RunPorts,
     keep: &mut C,
+    negatives: &mut Negatives,
 ) -> Status
     requires { IsSpelled command.now }
     // Its status is one of the command's own.
@@ -278,7 +279,6 @@ fn obey_keeping<S: Source, C: Sink>(
 {
     let mut report = StdoutSink::new(io::writer(rt));
     let second = &mut *held.second;
-    let negatives = &mut Negatives::default();
     let played = play(
         rt.alloc(),
         command,
@@ -334,10 +334,12 @@ fn obey_over<S: Source>(
     Some(match keep {
         Opening::Path { .. } | Opening::Spared => {
             let mut keep = record(rt, words, keep, noted)?;
-            obey_keeping(rt, command, first, &mut held, &mut *keep)
+            let told = &mut noted.negatives;
+            obey_keeping(rt, command, first, &mut held, &mut *keep, told)
         }
         Opening::Nothing | Opening::Made { .. } => {
-            obey_keeping(rt, command, first, &mut held, &mut NullSink::new())
+            let told = &mut noted.negatives;
+            obey_keeping(rt, command, first, &mut held, &mut NullSink::new(), told)
         }
     })
 }
@@ -451,6 +453,7 @@ fn ending(rt: &HostRuntime) -> Ending
             finish(&status, &mut errors)
                 .advise(&words, &noted, &status, &mut errors)
                 .warn(&noted, &mut errors)
+                .caution(&noted, &status, &mut errors)
         }
         Err(error) => {
             let status = status_without_words(&error);

@@ -1,6 +1,6 @@
 -- The line of advice behind the line of a status.
 use Rattle.std.specs.Prelude.{◌≡◌, ◌≢◌, ◌==◌, ℕ, ◌+◌, ◌<◌, ◌⊎◌, List, [], ◌∷◌, ◌++◌, length, codes}
-use Rattle.std.specs.Prelude.{Bool, true, Option, Some, None, nat_eq, nat_lt, if◌then◌else◌, Result}
+use Rattle.std.specs.Prelude.{Bool, true, ◌&&◌, Option, Some, None, nat_eq, nat_lt, if◌then◌else◌, Result}
 use Rattle.std.specs.Prelude.{slice_index_or}
 use Rattle.std.specs.List.{slice_get, starts_with}
 use Rattle.std.specs.Option.{unwrap_or}
@@ -28,6 +28,8 @@ use Rattle.sip_cli.specs.Words.{word}
 use Rattle.sip_stream.specs.declared.why.Why.{Why}
 use Rattle.sip_stream.specs.declared.why.Why.TheVariants.{Truncated, BadLine, BadSide, BadItem}
 use Rattle.sip_stream.specs.declared.why.Why.TheVariants.{ZeroDelta, TooHeavy}
+use Rattle.sip_vector.specs.declared.tally.Negatives.{Negatives}
+use Rattle.sip_verifier.specs.Negatives.{is_judged}
 use Rattle.sip_verifier.specs.declared.status.Port.TheVariants as ports
 use Rattle.sip_verifier.specs.declared.status.Status.{Status}
 use Rattle.sip_verifier.specs.declared.status.Status.TheVariants as statuses
@@ -260,6 +262,18 @@ seed_hint look =
     if look.is_even then Some hints.EVEN.now
     else if look.is_shared then Some hints.SHARED_SEED.now
     else None
+
+-- what is said of large entries whose side had a delta below 0
+abbrev pub sides_hint : Negatives → Option (List ℕ)
+sides_hint n =
+    if n.first && n.second then Some hints.CREDITS_OF_BOTH.now
+    else if n.first then Some hints.CREDITS_OF_0.now
+    else if n.second then Some hints.CREDITS_OF_1.now
+    else None
+
+-- that is said of a run whose replies were judged
+abbrev pub credits_hint : Negatives → Status → Option (List ℕ)
+credits_hint n status = if is_judged status then sides_hint n else None
 
 -- the line that says so was sent, if there is anything to say
 abbrev pub IsWarned : {T E : Type 0} → Option (List ℕ) → Option (List TalkEvent)

@@ -7,10 +7,11 @@ ghost use Rattle.sip_ports.specs.declared.port.PortStop.{PortStop as AnyStop};
 ghost use Rattle.sip_ports.specs.Ports.{HasCause, SendsWhole};
 ghost use Rattle.sip_cli.specs.declared.noted.Noted.{Noted as AnyNoted};
 ghost use Rattle.sip_cli.specs.Noting.{cause_of};
-ghost use Rattle.sip_cli.specs.Hints.{IsFileHint, IsWarned, file_line, seed_hint, trouble_hint};
+ghost use Rattle.sip_cli.specs.Hints.{IsFileHint, IsWarned, credits_hint, file_line, seed_hint};
 ghost use Rattle.sip_cli.specs.Hints.{IsAdvised, IsAdvisedUnread, IsAsText, IsHint, IsPlain};
 ghost use Rattle.sip_cli.specs.Hints.{IsRecordHint, StandsAt, hint_line, most_said, reason_hint};
-ghost use Rattle.sip_cli.specs.Hints.{refusal_hint, refused_line, status_hint, why_hint};
+ghost use Rattle.sip_cli.specs.Hints.{refusal_hint, refused_line, status_hint, trouble_hint};
+ghost use Rattle.sip_cli.specs.Hints.{why_hint};
 
 use crate::command::verb_of;
 use crate::noted::{Noted, SeedLook, Trouble, Unopened};
@@ -22,6 +23,7 @@ use arrayvec::ArrayVec;
 use sip_ports::{PortStop, Sink, write_whole};
 use sip_stream::Why;
 use sip_stream::text::put;
+use sip_vector::Negatives;
 use sip_verifier::{Port, Status};
 use sip_wire::Reason;
 
@@ -377,18 +379,37 @@ fn seed_said(look: SeedLook) -> Option<&'static str>
     }
 }
 
-/// Writes what is to be said of a seed that is used, if anything is.
+/// Writes the line that says this, if there is anything to say.
 ///
 /// # Errors
 ///
 /// Those of the sink, which a front of the line has then reached that is shorter than it.
-fn write_warning<K: Sink>(look: SeedLook, errors: &mut K) -> Result<(), PortStop>
-    ensures written { IsWarned (seed_hint look) (K.talk errors.old) (K.talk errors.new) result }
+fn say_if<K: Sink>(said: Option<&str>, errors: &mut K) -> Result<(), PortStop>
+    requires { IfSome said (λ text. length text.now ≤ most_said) }
+    ensures written { IsWarned (option_copied said.entry)
+        (K.talk errors.old) (K.talk errors.new) result }
     ensures cause { HasCause K.faults K.wants K.is_sure errors.old errors.new result }
 {
-    match seed_said(look) {
+    match said {
         Some(said) => say(said, errors),
         None => Ok(()),
+    }
+}
+
+// What is said of a run whose replies were judged, where large entries of a side were asked for that
+// had a delta below 0.
+fn credits_said(negatives: Negatives, status: &Status) -> Option<&'static str>
+    ensures said { option_copied result ≡ credits_hint negatives status.now }
+    ensures short { IfSome result (λ text. length text.now ≤ most_said) }
+{
+    if !matches!(status, Status::Accepted | Status::Rejected { .. }) {
+        return None;
+    }
+    match (negatives.first, negatives.second) {
+        (true, true) => Some(text::CREDITS_OF_BOTH),
+        (true, false) => Some(text::CREDITS_OF_0),
+        (false, true) => Some(text::CREDITS_OF_1),
+        (false, false) => None,
     }
 }
 
@@ -427,7 +448,24 @@ impl Ending {
             × HasCause K.faults K.wants K.is_sure errors.old errors.new sent) }
     {
         if self.line.is_ok() {
-            let _ = write_warning(noted.seed, errors);
+            let _ = say_if(seed_said(noted.seed), errors);
+        }
+        self
+    }
+
+    /// Writes a line behind these where large entries of a side were asked for that had a delta
+    /// below 0, whether their answer was accepted or not: no verifier sees whether an entry is below
+    /// 0, and where one is the answer may be wrong.
+    pub fn caution<K: Sink>(self, noted: &Noted, status: &Status, errors: &mut K) -> Ending
+        ensures same { result ≡ self }
+        ensures silent { OnErr self.line (errors.new ≡ errors.old) }
+        ensures written { OnOk self.line ((sent : Result Unit AnyStop)
+            × IsWarned (credits_hint noted.now.negatives status.now)
+            (K.talk errors.old) (K.talk errors.new) sent
+            × HasCause K.faults K.wants K.is_sure errors.old errors.new sent) }
+    {
+        if self.line.is_ok() {
+            let _ = say_if(credits_said(noted.negatives, status), errors);
         }
         self
     }

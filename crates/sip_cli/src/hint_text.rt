@@ -152,6 +152,18 @@ pub(crate) const SHARED_SEED: &str = "\
 others can read the file of SEED: if the helper can, it can make a wrong answer pass; make it with \
 umask 077";
 
+/// Large entries of side 0 were asked for.
+pub(crate) const CREDITS_OF_0: &str = "\
+side 0 had numbers below 0: heavy and share of it are right only if no entry of it is below 0";
+
+/// Those of side 1 were.
+pub(crate) const CREDITS_OF_1: &str = "\
+side 1 had numbers below 0: heavy and share of it are right only if no entry of it is below 0";
+
+/// Those of both sides were.
+pub(crate) const CREDITS_OF_BOTH: &str = "\
+both sides had numbers below 0: heavy and share are right only if no entry of their side is below 0";
+
 /// A seed that gives no challenges.
 pub(crate) const SPENT: &str = "\
 another seed is wanted: head -c 32 /dev/urandom > SEED makes one";

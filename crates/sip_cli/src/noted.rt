@@ -1,10 +1,12 @@
-//! What was noted of the files of a command when they were opened.
+//! What was noted of a command beside its status: of its files when they were opened, and of its
+//! stream.
 
 ghost use Rattle.std.specs.Prelude.{◌≡◌, ◌↔◌, IsTrue};
 ghost use Rattle.std.specs.IoError.{error_kind};
 ghost use Rattle.sip_cli.specs.Noting.{IsEven, IsShared, taken_from, trouble_of, unopened};
 
 use crate::Opening;
+use sip_vector::Negatives;
 use std::io::{Error, ErrorKind};
 
 /// Why a file is not to be had.
@@ -100,8 +102,9 @@ fn is_even(front: &[u8]) -> bool
     }
 }
 
-/// What was noted of the files of a command, each by the port that it was to be opened for; `None`
-/// where it opened, and where there is no such file. Advice is told by it, and nothing else.
+/// What was noted of a command beside its status: of its files, each by the port that it was to be
+/// opened for, `None` where it opened and where there is no such file; and of its stream. Advice is
+/// told by it, and nothing else.
 #[derive(Clone, Copy, Debug, PartialEq, Eq, Default)]
 pub struct Noted {
     /// Of the stream.
@@ -116,4 +119,6 @@ pub struct Noted {
     pub keep: Option<Unopened>,
     /// What the file of the seed is like, if one was looked at.
     pub seed: SeedLook,
+    /// Which sides of the stream had a delta below 0, of those whose large entries are asked for.
+    pub negatives: Negatives,
 }

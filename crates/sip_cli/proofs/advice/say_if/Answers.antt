@@ -1,0 +1,1 @@
+use Rattle.sip_cli.proofs.advice.say_if.Goals as goal
