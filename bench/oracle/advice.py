@@ -1,7 +1,7 @@
 """The lines of advice of a run, `sip: hint:`, as far as they are said here: how each begins, and what
 it has to say behind that."""
 
-from .runs import asks_for_text, behind_progress
+from .runs import asks_for_text, behind_progress, source
 from .words import ASKED, COMMANDS, LOOKUPS, QUERIES, Usage, read_words
 
 SHOWN = 64
@@ -73,7 +73,11 @@ def advice(words, files, outcome, may_be_made, readable):
         return [] if asks_for_text(words) else [refused(texts, usage.word)]
     if outcome.status == "Page":
         return []
-    lines = [of_end(verb, said, files, outcome, may_be_made), of_seed(said, files, readable)]
+    lines = [
+        of_end(verb, said, files, outcome, may_be_made),
+        of_seed(said, files, readable),
+        of_credits(verb, said, files, outcome),
+    ]
     return [line for line in lines if line]
 
 
@@ -178,3 +182,16 @@ def of_seed(said, files, readable):
     if len(seed) >= 32 and len(set(seed[:32])) == 1:
         return (f"sip: hint: {EVEN}",)
     return (f"sip: hint: {READABLE}",) if readable else None
+
+
+def of_credits(verb, said, files, outcome):
+    """Large entries that were asked of a side that had numbers below 0."""
+    if verb not in ("verify", "play") or outcome.status not in ("Accepted", "Rejected"):
+        return None
+    updates, _ = source(said["stream"], said["depth"], files)
+    asked = {question.side for question in said["queries"] if question.kind in ("heavy", "share")}
+    sides = sorted(asked & {side for side, _, delta in updates if delta < 0})
+    if not sides:
+        return None
+    which = "both sides" if len(sides) == 2 else f"side {sides[0]}"
+    return f"sip: hint: {which} had numbers below 0: ", "only if no entry of"
