@@ -22,9 +22,10 @@ LIBC.ptrace.restype = ctypes.c_long
 class Child:
     """A program that was started."""
 
-    def __init__(self, words, out=os.devnull, traced=False, cwd=None):
+    def __init__(self, words, out=os.devnull, traced=False, cwd=None, wanted=0, quiet=False):
         self.words = [str(word) for word in words]
         self.traced = traced
+        self.wanted = wanted  # the code that it is to end with
         self.code = None
         self.cpu = 0.0  # seconds of user and system time
         self.peak = None  # the most memory that was resident, in KiB
@@ -32,12 +33,14 @@ class Child:
         self.stack = None  # the bytes from the start of the stack down to the lowest page that was touched
         self.pid = os.fork()
         if self.pid == 0:
-            self.become(out, cwd)
+            self.become(out, cwd, quiet)
 
-    def become(self, out, cwd):
+    def become(self, out, cwd, quiet):
         try:
             os.dup2(os.open(os.devnull, os.O_RDONLY), 0)
             os.dup2(os.open(out, os.O_WRONLY | os.O_CREAT | os.O_TRUNC, 0o644), 1)
+            if quiet:
+                os.dup2(os.open(os.devnull, os.O_WRONLY), 2)
             if cwd:
                 os.chdir(cwd)
             # Drawn addresses make the memory differ by a hundred KiB from run to run.
@@ -97,7 +100,7 @@ def wait(children):
         if child.code is not None:
             del left[pid]
     for child in children:
-        if child.code != 0:
+        if child.code != child.wanted:
             raise SystemExit(f"{' '.join(child.words)} ended with {child.code}")
 
 

@@ -1,36 +1,122 @@
-"""The stack that either end uses at most."""
+"""The stack that each command of the program uses at most."""
+
+import os
 
 from harness.children import run
 from harness.hitters import AT_LEAST
-from harness.settings import reachable
+from harness.lookups import Lookups
+from harness.moments import DEGREES, Moments, ones
+from harness.settings import reachable, stream_word
+from harness.streams import put
 from harness.talks import Talks, made, parts
 
 MOST = 64 * 1024
 RECORDS = 100_000
+MADE = f"made:7:{RECORDS}"
 
 # Beside queries for sub-vectors: one of each kind for which an end keeps other numbers.
 OTHERS = ("f2:0", "inner", f"heavy:0:{AT_LEAST}")
 
+LOOKUPS = ("index:1", "pred:99", "succ:100")
+
+# The codes of a run that is accepted, and of one that is rejected.
+ACCEPTED, REJECTED = 0, 1
+
 
 def measure(programs, settings, work):
     programs = programs.talks()
-    print(f"\nstack, {RECORDS} records: bytes of the main thread's that were touched, by pages")
-    print(f"{'':26}" + "".join(f"{name:>9}" for name in programs))
+    table = Stacks(programs)
     # What the start of a program takes, the loader among it.
-    starts = [run([*program, "gen", 7, 1, 20], traced=True).stack for program in programs.values()]
-    print(f"{'gen of one record':26}" + "".join(f"{stack:>9}" for stack in starts))
-    above = []
+    table.line("gen of one record", {
+        name: run([*program, "gen", 7, 1, 20], traced=True).stack for name, program in programs.items()
+    })
     for depth in settings.depths:
-        talks = Talks(made(programs["sip"], RECORDS, depth), depth, work)
-        asked = [(f"{queries:2}", parts(queries)) for queries in settings.queries]
-        for label, words in asked + [(word, [word]) for word in OTHERS]:
-            stacks = {}
-            for name, program in reachable(programs, depth):
-                stacks[name] = [child.stack for child in talks.talk(name, program, words, traced=True)]
-            for which, end in enumerate(("help", "verify")):
-                line = f"{end:6} {depth} {label}"
-                cells = [str(stacks[name][which]) if name in stacks else "-" for name in programs]
-                print(line.ljust(26) + "".join(f"{cell:>9}" for cell in cells), flush=True)
-                if stacks["sip"][which] > MOST:
-                    above.append(f"stack: {line} uses {stacks['sip'][which]} bytes, and {MOST} are allowed")
-    return above
+        see_talks(table, programs, settings, depth, work)
+        see_own_talks(table, programs["sip"], depth, work)
+        made(programs["sip"], RECORDS, depth)(os.path.join(work, "stream"))
+        for label, words, code in alone(depth, work):
+            child = run([*programs["sip"], *words], traced=True, wanted=code, quiet=True)
+            table.line(f"{label} {depth}", {"sip": child.stack})
+    for words in (["--version"], ["--help"], ["verify", "--help"]):
+        table.line(" ".join(words), {"sip": run([*programs["sip"], *words], traced=True).stack})
+    return table.above
+
+
+class Stacks:
+    """The lines so far, of which those of sip that are above what is allowed are told at the end."""
+
+    def __init__(self, programs):
+        self.programs = programs
+        self.above = []
+        print(f"\nstack, {RECORDS} records: bytes of the main thread's that were touched, by pages")
+        print(f"{'':26}" + "".join(f"{name:>9}" for name in programs))
+
+    def line(self, line, stacks):
+        cells = [str(stacks.get(name, "-")) for name in self.programs]
+        print(line.ljust(26) + "".join(f"{cell:>9}" for cell in cells), flush=True)
+        if stacks["sip"] > MOST:
+            self.above.append(f"stack: {line} uses {stacks['sip']} bytes, and {MOST} are allowed")
+
+    def talk(self, talks, label, stacks):
+        """The lines of both ends, of the stacks of each program's."""
+        for which, end in enumerate((talks.HELPING, talks.ASKING)):
+            self.line(f"{end:8} {talks.depth} {label}", {name: ends[which] for name, ends in stacks.items()})
+
+
+def see_talks(table, programs, settings, depth, work):
+    """Talks that all programs have."""
+    talks = Talks(made(programs["sip"], RECORDS, depth), depth, work)
+    asked = [(f"{queries:2}", parts(queries)) for queries in settings.queries]
+    for label, words in asked + [(word, [word]) for word in OTHERS]:
+        stacks = {}
+        for name, program in reachable(programs, depth):
+            stacks[name] = [child.stack for child in talks.talk(name, program, words, traced=True)]
+        table.talk(talks, label, stacks)
+
+
+def see_own_talks(table, program, depth, work):
+    """Talks of sip alone: of other words for the stream, with a record, with progress, and about lookups and moments."""
+    talks = Talks(made(program, RECORDS, depth), depth, work)
+    see_own(table, talks, program, "record", parts(16), RECORD=(talks.path("record"),))
+    see_own(table, talks, program, "made:", parts(16), word=MADE)
+    text = talks.path("text")
+    run([*program, "lines", talks.word, depth], text)
+    see_own(table, talks, program, "text:", parts(16), word=f"text:{text}")
+    see_own(table, talks, [*program, "--progress"], "progress", parts(16))
+    looks = Lookups(made(program, RECORDS, depth), depth, work)
+    for words in [[word] for word in LOOKUPS] + [list(LOOKUPS) * 5 + ["index:2"]]:
+        see_own(table, looks, program, words[0].partition(":")[0] if len(words) == 1 else len(words), words)
+    for degree in DEGREES:
+        talks = Moments(put(list(ones(RECORDS, depth, degree)), depth), depth, work)
+        for count in (1, 16):
+            see_own(table, talks, program, f"F{degree} {count}", [f"moment:0:{degree}"] * count)
+
+
+def see_own(table, talks, program, label, words, **further):
+    """A talk of sip, in which some of what the talks know is another."""
+    usual = {name: getattr(talks, name) for name in further}
+    for name, value in further.items():
+        setattr(talks, name, value)
+    ends = talks.talk("sip", program, words, traced=True, quiet=True)
+    table.talk(talks, label, {"sip": [child.stack for child in ends]})
+    for name, value in usual.items():
+        setattr(talks, name, value)
+
+
+def alone(depth, work):
+    """The commands that need no other end, each with its name, its words and the code that it ends with. Some are about what one before them wrote."""
+    stream, seed, record = (os.path.join(work, name) for name in ("stream", "seed", "record"))
+    word = stream_word(stream, depth)
+    queries = [*parts(16 - len(OTHERS)), *OTHERS]
+    few = parts(5)
+    yield "gen", ["gen", 7, RECORDS, depth], ACCEPTED
+    yield "lines", ["lines", word, depth], ACCEPTED
+    yield "widen", ["widen", word, depth], ACCEPTED
+    yield "play skewed", ["play", MADE, seed, "skewed", "-", depth, *queries], REJECTED
+    yield "play mute", ["play", MADE, seed, "mute", "-", depth, *queries], REJECTED
+    yield "play honest", ["play", word, seed, "honest", record, depth, *queries], ACCEPTED
+    yield "audit", ["audit", word, record], ACCEPTED
+    yield "show", ["show", record], ACCEPTED
+    yield "convert", ["convert", record], ACCEPTED
+    yield "panel of 3", ["panel", word, seed, "mute,skewed,honest", depth, *few], ACCEPTED
+    yield "panel of 16", ["panel", MADE, seed, ",".join(["honest"] * 16), depth, "sub:0:999"], ACCEPTED

@@ -36,6 +36,8 @@ class Talks:
         self.stream, self.seed = self.path("stream"), self.path("seed")
         self.fifos = [self.path("to.helper"), self.path("from.helper")]
         write(self.stream)
+        # The word that names the stream to a verifier.
+        self.word = stream_word(self.stream, depth)
         with open(self.seed, "wb") as seed:
             seed.write(os.urandom(32))
         for fifo in self.fifos:
@@ -49,14 +51,14 @@ class Talks:
         """The words of the two ends, of the words of the queries."""
         to_helper, from_helper = self.fifos
         helper = [*program, self.HELPING, to_helper, from_helper]
-        ports = [stream_word(self.stream, self.depth), self.seed, from_helper, to_helper]
+        ports = [self.word, self.seed, from_helper, to_helper]
         return helper, [*program, self.ASKING, *ports, *self.RECORD, self.depth, *queries]
 
-    def talk(self, name, program, queries, traced=False):
+    def talk(self, name, program, queries, **further):
         """Runs both ends, and compares the report with that of sip, which is run first."""
         report = self.path(f"report.{name}")
         helper, verifier = self.ends(program, queries)
-        ends = [Child(helper, traced=traced), Child(verifier, report, traced=traced)]
+        ends = [Child(helper, **further), Child(verifier, report, **further)]
         wait(ends)
         if not filecmp.cmp(report, self.path("report.sip"), shallow=False):
             raise SystemExit(f"the report of {name} differs at depth {self.depth}: {' '.join(queries)}")
