@@ -1,10 +1,19 @@
 //! A whole run of a verifier of lookups.
 
-ghost use Rattle.std.specs.Prelude.{None};
+ghost use Rattle.std.specs.Prelude.{◌≡◌, length, IfOk, IsTrue, MatchResult, Result};
+ghost use Rattle.std.specs.List.{list_all};
 ghost use Rattle.sip_ports.specs.Ports.{Lasts};
+ghost use Rattle.sip_ports.specs.declared.port.TalkEvent.{TalkEvent as AnyEvent};
+ghost use Rattle.sip_verifier.specs.declared.status.Status.{Status as AnyStatus};
+ghost use Rattle.sip_verifier.specs.declared.task.Task.{Task as AnyTask};
+ghost use Rattle.sip_verifier.specs.declared.weights.Weights.{Weights as AnyWeights};
 ghost use Rattle.sip_verifier.specs.Exchanges.{TakesAtMost};
-ghost use Rattle.sip_verifier.specs.Snapshots.{no_port, port, snapshot};
+ghost use Rattle.sip_verifier.specs.GatherClause.{GatherClause};
+ghost use Rattle.sip_verifier.specs.Snapshots.{PortState, counts, no_port, port, snapshot};
 ghost use Rattle.sip_verifier.specs.runs.Concluding.{status_of};
+ghost use Rattle.sip_verifier.specs.SeatNumbers.{has_root};
+ghost use Rattle.sip_verifier.specs.Seats.{Seating};
+ghost use Rattle.sip_lookup.specs.inside.Seating.{IsRooted, IsSeated, IsUnseated};
 ghost use Rattle.sip_lookup.specs.Promises.{LookClause};
 ghost use Rattle.sip_lookup.specs.Tasks.{CanLookUp};
 
@@ -12,8 +21,82 @@ use crate::asker::Looker;
 use crate::task::LookTask;
 use sip_ports::{Link, NullSink, Sink, Source};
 use sip_vector::Depth;
-use sip_verifier::{Status, conclude_run, gather};
+use sip_verifier::{Seats, Status, conclude_run, gather};
 use std::alloc::Global;
+use std::mem;
+
+/// The lookups over the seats that were gathered, if they were, on the heap. The seats are taken
+/// from where they stand: they are large, and an argument would be a second place for them on the
+/// stack of the run.
+#[inline(never)]
+fn seat_lookups(
+    alloc: Global,
+    task: &LookTask,
+    gathered: &mut Result<Seats, Status>,
+) -> Result<Box<Looker>, Status>
+    requires can { CanLookUp task.now }
+    requires levels { IfOk gathered.old (λ seats. seats.depth ≡ task.now.depth) }
+    requires each { IfOk gathered.old
+        (λ seats. length seats.seats ≡ length task.now.lookups.items) }
+    requires rooted { IfOk gathered.old
+        (λ seats. IsTrue (list_all (λ s. has_root s.query) seats.seats)) }
+    ensures { MatchResult result (λ looker. IsSeated task.now gathered.old looker.value)
+        (λ status. IsUnseated gathered.old status) }
+{
+    match mem::replace(gathered, Err(Status::SeedSpent)) {
+        Ok(seats) => {
+            let looker = Looker::new(alloc, task, seats)?;
+            match Box::new(alloc, looker) {
+                Ok(looker) => Ok(looker),
+                Err(_) => Err(Status::OutOfMemory),
+            }
+        }
+        Err(status) => Err(status),
+    }
+}
+
+/// Gathers a root for each lookup of a task, and makes the lookups over these. It is a call of its
+/// own: the place where the seats are gathered is on the stack no longer than that, and not while
+/// the lookups are asked.
+#[inline(never)]
+fn gather_lookups<A: Source, B: Source, L: Link>(
+    alloc: Global,
+    task: &LookTask,
+    first: &mut A,
+    second: &mut B,
+    peer: &mut L,
+) -> Result<Box<Looker>, Status>
+    requires { CanLookUp task.now }
+    ensures gathers { (over : AnyTask) × IsRooted task.now over
+        × (gathered : Result Seating AnyStatus) × (weights : AnyWeights)
+        × ((report reports : PortState AnyEvent) → GatherClause over
+        (snapshot (port A.left A.faults first.old) (port B.left B.faults second.old)
+        (port L.talk L.faults peer.old) report no_port)
+        (snapshot (port A.left A.faults first.new) (port B.left B.faults second.new)
+        (port L.talk L.faults peer.new) reports no_port)
+        (counts (A.wants first.old) (B.wants second.old) (L.wants peer.old) 0 0)
+        (counts (A.wants first.new) (B.wants second.new) (L.wants peer.new) 0 0)
+        gathered weights)
+        × MatchResult result (λ looker. IsSeated task.now gathered looker.value)
+        (λ status. IsUnseated gathered status) }
+    ensures first { Lasts A.faults A.wants A.is_sure first.old first.new }
+    ensures second { Lasts B.faults B.wants B.is_sure second.old second.new }
+    ensures peer { Lasts L.faults L.wants L.is_sure peer.old peer.new }
+{
+    // A run of lookups keeps no record of its talk.
+    let mut keep = NullSink::new();
+    // Nothing is gathered yet. What is stays here until the lookups have it.
+    let mut gathered = Err(Status::SeedSpent);
+    gather(
+        &task.rooted(),
+        first,
+        second,
+        peer,
+        &mut keep,
+        &mut gathered,
+    );
+    seat_lookups(alloc, task, &mut gathered)
+}
 
 /// All that a run does, up to its first stop.
 fn look_steps<A: Source, B: Source, L: Link, K: Sink>(
@@ -39,21 +122,8 @@ fn look_steps<A: Source, B: Source, L: Link, K: Sink>(
 {
     let levels = task.depth.get();
     prove!(levels >= 1 && levels <= Depth::MOST);
-    // A run of lookups keeps no record of its talk.
-    let mut keep = NullSink::new();
-    // Nothing is gathered yet.
-    let mut gathered = Err(Status::SeedSpent);
-    gather(
-        &task.rooted(),
-        first,
-        second,
-        peer,
-        &mut keep,
-        &mut gathered,
-    );
-    let seats = gathered?;
-    let mut looker = Looker::new(alloc, task, seats)?;
-    conclude_run(&mut looker, peer, report, &mut keep)
+    let mut looker = gather_lookups(alloc, task, first, second, peer)?;
+    conclude_run(&mut *looker, peer, report, &mut NullSink::new())
 }
 
 /// Does a task: draws the challenges from `second`, reads the stream of `first` and sends it over
