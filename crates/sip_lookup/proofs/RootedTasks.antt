@@ -1,6 +1,6 @@
 -- The task whose seats are a root for each lookup, and those seats beside the lookups.
-use Rattle.std.proofs.Common.{◌≡◌, ℕ, zero, suc, ◌*◌, ◌≤◌, ◌^◌, Bool, true, false, List, [], ◌∷◌, length, map, All, Result, Ok, Err, refl, sym, ap, subst, ◌∙◌, arith}
-use Rattle.std.specs.Prelude.{IfOk, IsTrue, ◌||◌, nat_lt, replicate, if◌then◌else◌}
+use Rattle.std.proofs.Common.{◌≡◌, ℕ, zero, suc, ◌*◌, ◌≤◌, ◌^◌, Bool, true, false, List, [], ◌∷◌, length, map, All, refl, sym, ap, subst, ◌∙◌, arith}
+use Rattle.std.specs.Prelude.{IsTrue, ◌||◌, nat_lt, replicate, if◌then◌else◌}
 use Rattle.std.specs.List.{list_all, list_any, zip}
 use Rattle.std.proofs.lemmas.Bool.{and_from, lt-ltb}
 use Rattle.std.proofs.lemmas.List.{length-map, length-replicate}
@@ -114,10 +114,3 @@ seats_rooted n seats e = sym (list_all-map has_root (λ (s : Seated). s.query) s
 pub items_below : (depth : ℕ) (lookups : List Lookup) → All (CanLook depth) lookups → IsTrue (list_all (λ (l : Lookup). nat_lt (item_of l) (2 ^ depth)) lookups)
 items_below depth [] can = refl
 items_below depth (l ∷ lookups) can = and_from _ _ (lt-ltb (item_of l) (2 ^ depth) (All-head (CanLook depth) l lookups can)) (items_below depth lookups (All-tail (CanLook depth) l lookups can))
-
--- ---- what was gathered
-
--- seats of which this holds are some of which that holds
-pub if_ok_as : {A E : Type 0} {P Q : A → Type 0} (r : Result A E) → ((x : A) → P x → Q x) → IfOk r P → IfOk r Q
-if_ok_as (Ok x) so p = so x p
-if_ok_as (Err e) so p = tt
