@@ -186,8 +186,9 @@ fn a_line_comes_once_in_a_few_seconds(rt: HostRuntime) -> Result<(), Fail> {
     check_moved(&rt, alloc, LATE, Some(2), true)
 }
 
-// Words, how many receives are made, and the lines about them by a clock that is two seconds further
-// at each: a side that answers says again that it hears, and one that asks has a line for each reply.
+// Words, how many receives are made, and the lines about them by a clock that is two seconds
+// further at each: a side that answers says again that it hears, and one that asks has a line for
+// each reply.
 const RECEIVED: &[(&str, usize, &str)] = &[
     ("help from to", 2, HEARD_NOTHING),
     (

@@ -1,6 +1,7 @@
 -- The line of advice behind the line of a status.
 use Rattle.std.specs.Prelude.{◌≡◌, ◌≢◌, ◌==◌, ℕ, ◌+◌, ◌<◌, ◌⊎◌, List, [], ◌∷◌, ◌++◌, length, codes}
-use Rattle.std.specs.Prelude.{Bool, true, ◌&&◌, Option, Some, None, nat_eq, nat_lt, if◌then◌else◌, Result}
+use Rattle.std.specs.Prelude.{Bool, true, ◌&&◌, Option, Some, None, nat_eq, nat_lt, Result}
+use Rattle.std.specs.Prelude.{if◌then◌else◌}
 use Rattle.std.specs.Prelude.{slice_index_or}
 use Rattle.std.specs.List.{slice_get, starts_with}
 use Rattle.std.specs.Option.{unwrap_or}

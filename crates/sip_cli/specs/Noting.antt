@@ -4,7 +4,8 @@ use Rattle.std.specs.declared.io.ErrorKind.{ErrorKind}
 use Rattle.std.specs.declared.io.ErrorKind.TheVariants.{NotFound, PermissionDenied, IsADirectory}
 use Rattle.sip_cli.specs.declared.noted.Noted.{Noted}
 use Rattle.sip_cli.specs.declared.noted.Trouble.{Trouble}
-use Rattle.sip_cli.specs.declared.noted.Trouble.TheVariants.{Missing, Directory, Denied, Taken, Other}
+use Rattle.sip_cli.specs.declared.noted.Trouble.TheVariants.{Missing, Directory, Denied, Taken}
+use Rattle.sip_cli.specs.declared.noted.Trouble.TheVariants.{Other}
 use Rattle.sip_cli.specs.declared.noted.Unopened.{Unopened}
 use Rattle.sip_cli.specs.declared.plan.Opening.{Opening}
 use Rattle.sip_cli.specs.declared.plan.Opening.TheVariants as opening

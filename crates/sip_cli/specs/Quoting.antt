@@ -1,5 +1,6 @@
 -- How a word of a command stands in a line.
-use Rattle.std.specs.Prelude.{ℕ, ◌+◌, ◌/◌, ◌%◌, ◌==◌, nat_lt, if◌then◌else◌, List, [], ◌∷◌, ◌++◌, codes}
+use Rattle.std.specs.Prelude.{ℕ, ◌+◌, ◌/◌, ◌%◌, ◌==◌, nat_lt, if◌then◌else◌, List, [], ◌∷◌, ◌++◌}
+use Rattle.std.specs.Prelude.{codes}
 use Rattle.std.specs.Prelude.{Bool, true, false, length, take}
 use Rattle.std.specs.List.{flat_map}
 
@@ -11,8 +12,8 @@ hex_digit n = if nat_lt n 10 then 48 + n else 87 + n
 abbrev pub coded : ℕ → List ℕ
 coded byte = 92 ∷ 120 ∷ hex_digit (byte / 16) ∷ hex_digit (byte % 16) ∷ []
 
--- a byte as it is shown: what prints in ASCII as it is, but for `"` and `\` with a `\` before it, and
--- all else, as what would move a terminal's cursor, by its number
+-- a byte as it is shown: what prints in ASCII as it is, but for `"` and `\` with a `\` before it,
+-- and all else, as what would move a terminal's cursor, by its number
 abbrev pub shown : ℕ → List ℕ
 shown byte =
     if byte == 34 then 92 ∷ 34 ∷ []

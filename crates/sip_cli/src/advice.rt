@@ -396,8 +396,8 @@ fn say_if<K: Sink>(said: Option<&str>, errors: &mut K) -> Result<(), PortStop>
     }
 }
 
-// What is said of a run whose replies were judged, where large entries of a side were asked for that
-// had a delta below 0.
+// What is said of a run whose replies were judged, where large entries were asked for
+// of a side that had a delta below 0.
 fn credits_said(negatives: Negatives, status: &Status) -> Option<&'static str>
     ensures said { option_copied result ≡ credits_hint negatives status.now }
     ensures short { IfSome result (λ text. length text.now ≤ most_said) }
@@ -453,9 +453,9 @@ impl Ending {
         self
     }
 
-    /// Writes a line behind these where large entries of a side were asked for that had a delta
-    /// below 0, whether their answer was accepted or not: no verifier sees whether an entry is below
-    /// 0, and where one is the answer may be wrong.
+    /// Writes a line behind these where large entries were asked for of a side that had a delta
+    /// below 0, whether their answer was accepted or not: no verifier sees whether an entry is
+    /// below 0, and where one is the answer may be wrong.
     pub fn caution<K: Sink>(self, noted: &Noted, status: &Status, errors: &mut K) -> Ending
         ensures same { result ≡ self }
         ensures silent { OnErr self.line (errors.new ≡ errors.old) }

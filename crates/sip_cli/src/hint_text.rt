@@ -162,7 +162,7 @@ side 1 had numbers below 0: heavy and share of it are right only if no entry of 
 
 /// Those of both sides were.
 pub(crate) const CREDITS_OF_BOTH: &str = "\
-both sides had numbers below 0: heavy and share are right only if no entry of their side is below 0";
+both sides had numbers below 0: heavy and share are right only if no entry is below 0";
 
 /// A seed that gives no challenges.
 pub(crate) const SPENT: &str = "\

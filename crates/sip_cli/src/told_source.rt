@@ -49,8 +49,8 @@ fn line_feeds(bytes: &[u8]) -> u64
     count
 }
 
-/// How much of a stream in a form was read, and at how many bytes, or at which second, the next line
-/// is due.
+/// How much of a stream in a form was read, and at how many bytes, or at which second, the next
+/// line is due.
 #[derive(Clone, Copy, Debug, PartialEq, Eq)]
 struct Reading {
     form: Form,
