@@ -40,7 +40,8 @@ use Rattle.sip_moments.specs.declared.moment.Moment.{Moment}
 use Rattle.sip_moments.specs.declared.task.MomentTask.{MomentTask}
 use Rattle.sip_moments.specs.Manner.{FewFor, asking, counting, first_high, honesty}
 use Rattle.sip_moments.specs.MomentClause.{IsListed, MomentClause}
-use Rattle.sip_moments.specs.Sittings.{Sitting, StandsFor, blocks_of, remaining_of, square_of}
+use Rattle.sip_moments.specs.inside.Seating.{begun}
+use Rattle.sip_moments.specs.Sittings.{StandsFor, blocks_of, remaining_of, square_of}
 use Rattle.sip_moments.specs.Tasks.{CanBeDone, run_of, squares_of, version_of}
 use Rattle.sip_moments.proofs.CompleteMoments.{moments_complete}
 use Rattle.sip_moments.proofs.MomentSittings.{paired}
@@ -170,16 +171,6 @@ module _ (task : MomentTask) (x : Exchange) where
     talk = talk;
     cause = ((is_drawn asking task.moments.items (squares_of task) x seed, legal), is);
   }
-
--- what asks the moments of a task over these seats, before the first of them
-abbrev pub begun : MomentTask → Seating → Sitting
-begun task seats = record {
-  version = version_of task;
-  moments = task.moments.items;
-  seats = seats;
-  asked = 0;
-  spent = false;
-}
 
 -- it goes on behind the stream
 pub goes_behind : (task : MomentTask) (x : Exchange) {left : Option (List ℕ)}
