@@ -1,5 +1,6 @@
 pub mod Examples
 pub mod Fields
 pub mod Reading
+pub mod Seats
 pub mod Sketches
 pub mod inside

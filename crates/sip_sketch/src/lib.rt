@@ -20,6 +20,7 @@
 //! | file of `specs/` | what it defines |
 //! |---|---|
 //! | `Fields` | files of numbers, each of which says what stands behind it: spelling and reading |
+//! | `Seats` | what a seat keeps of a stream, and the two numbers by which its file says it |
 //! | `Sketches` | what a sketch has, its numbers in their order, the fields of its file |
 //! | `Reading` | what reading answers, and the sketch or the fault that this is |
 //! | `Examples` | what the examples work out |
@@ -34,10 +35,12 @@ mod kind;
 pub mod laws;
 mod parts;
 mod reading;
+mod seat;
 mod sketch;
 mod writing;
 
 pub use fault::SketchFault;
 pub use kind::SeatKind;
 pub use parts::Parts;
-pub use sketch::{Sketch, SketchSeat};
+pub use seat::SketchSeat;
+pub use sketch::Sketch;

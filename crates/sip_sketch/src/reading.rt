@@ -1,9 +1,10 @@
 //! Reads a sketch off its file.
 
-ghost use Rattle.std.specs.Prelude.{◌≡◌, ◌≤◌, ℕ, List, length, All, IfOk, IfErr, Ok, flat_map};
+ghost use Rattle.std.specs.Prelude.{◌≡◌, ◌≤◌, ◌*◌, ℕ, List, length, All, IfOk, IfErr, Ok, flat_map};
 ghost use Rattle.sip_vector.specs.Streams.{most_weight};
 ghost use Rattle.sip_sketch.specs.Fields.{Fields, closed, digest, read};
 ghost use Rattle.sip_sketch.specs.Reading.{Gives, IsFaultOf, IsReadAs, Takes};
+ghost use Rattle.sip_sketch.specs.Seats.{IsSecond};
 ghost use Rattle.sip_sketch.specs.Sketches.{IsSketch, bits_of, elements, fixed, magic};
 ghost use Rattle.sip_sketch.specs.Sketches.{spelled_file};
 ghost use Rattle.sip_sketch.specs.Sketches.{parts_fields, parts_numbers, seat_fields, seat_numbers};
@@ -15,8 +16,7 @@ ghost use Rattle.sip_sketch.specs.declared.cursor.Size.TheVariants.{Long};
 ghost use Rattle.std.specs.Int.{from_bool};
 
 use crate::cursor::{Cursor, Size};
-use crate::sketch::{Sketch, SketchSeat};
-use crate::{Parts, SeatKind, SketchFault};
+use crate::{Parts, SeatKind, Sketch, SketchFault, SketchSeat};
 use arrayvec::ArrayVec;
 use sha2::{Digest, Sha256};
 use sip_field::{Field, M61, Seat};
@@ -150,7 +150,8 @@ fn take_block(cursor: &mut Cursor, depth: Depth) -> Result<Seat<M61, CAP>, Sketc
 // The least and the greatest total, each with the greatest weight, of a side of this weight.
 fn totals(weight: u64, is_open: bool) -> (u64, u64)
     requires { weight ≤ most_weight }
-    ensures { ranged Long result.0 result.1 ≡ total_field weight is_open }
+    ensures field { ranged Long result.0 result.1 ≡ total_field weight is_open }
+    ensures most { result.1 ≤ 2 * most_weight }
 {
     let most = MOST_WEIGHT + weight;
     if is_open {
@@ -164,8 +165,9 @@ fn totals(weight: u64, is_open: bool) -> (u64, u64)
 fn seconds(kind: SeatKind, is_used: bool, tally: &Tally) -> (u64, u64)
     requires first { tally.now.first ≤ most_weight }
     requires second { tally.now.second ≤ most_weight }
-    ensures { ranged Long result.0 result.1
+    ensures field { ranged Long result.0 result.1
         ≡ second_of tally.now (code_of kind) (from_bool is_used) }
+    ensures each { (x : ℕ) → result.0 ≤ x → x ≤ result.1 → IsSecond kind x }
 {
     match kind {
         SeatKind::Entries | SeatKind::Sums(_) => (0, 0),
@@ -191,13 +193,7 @@ fn take_seat(cursor: &mut Cursor, depth: Depth, tally: &Tally) -> Result<SketchS
     let is_used = used == 1;
     let (least, most) = seconds(kind, is_used, tally);
     let second = cursor.number(Size::Long, least, most)?;
-    Ok(SketchSeat {
-        kind,
-        is_used,
-        block,
-        first,
-        second,
-    })
+    Ok(SketchSeat::of(kind, is_used, block, first, second))
 }
 
 // So many seats.

@@ -2,51 +2,9 @@
 
 ghost use Rattle.std.specs.Prelude.{◌≡◌};
 
-use crate::{Parts, SeatKind};
-use sip_field::{M61, Seat};
-use sip_vector::{CAP, Depth, Tally};
+use crate::{Parts, SketchSeat};
+use sip_vector::{Depth, Tally};
 use std::marker::Model;
-
-/// A seat: what it serves, whether a question has used it, its challenges, and what it keeps of the
-/// stream. Whoever knows the challenges can make any answer accepted, so none is shown.
-#[derive(Drop)]
-pub struct SketchSeat {
-    pub(crate) kind: SeatKind,
-    pub(crate) is_used: bool,
-    pub(crate) block: Seat<M61, CAP>,
-    pub(crate) first: u64,
-    pub(crate) second: u64,
-}
-
-impl Model for SketchSeat {
-    ghost use Rattle.sip_sketch.specs.Sketches.{SeatValues};
-
-    ghost Value = { SeatValues };
-
-    ghost view = { λ s. record {
-      kind = s.kind;
-      is_used = s.is_used;
-      block = s.block;
-      first = s.first;
-      second = s.second;
-    } };
-}
-
-impl SketchSeat {
-    /// What it serves.
-    pub fn kind(&self) -> SeatKind
-        ensures { result ≡ self.now.kind }
-    {
-        self.kind
-    }
-
-    /// Whether a question has used it.
-    pub fn is_used(&self) -> bool
-        ensures { result ≡ self.now.is_used }
-    {
-        self.is_used
-    }
-}
 
 /// What a verifier keeps of a stream: what is told of it, and seats for 1 to 64 questions.
 #[derive(Drop)]

@@ -11,9 +11,8 @@ ghost use Rattle.sip_sketch.specs.Sketches.{tally_fields, tally_numbers};
 ghost use Rattle.sip_sketch.specs.inside.Heads.{head_numbers};
 ghost use Rattle.sip_sketch.specs.inside.Spelling.{Puts};
 
-use crate::Parts;
 use crate::reading::{DIGEST, Head, MAGIC};
-use crate::sketch::{Sketch, SketchSeat};
+use crate::{Parts, Sketch, SketchSeat};
 use sha2::{Digest, Sha256};
 use sip_field::{Field, M61, Seat};
 use sip_vector::{CAP, Depth, Negatives, Tally};
@@ -115,9 +114,9 @@ fn put_seat(out: &mut Vec<u8>, seat: &SketchSeat)
 {
     put(out, &seat.kind.code().to_be_bytes());
     put(out, &u8::from(seat.is_used).to_be_bytes());
-    put_block(out, &seat.block);
-    put(out, &seat.first.to_be_bytes());
-    put(out, &seat.second.to_be_bytes());
+    put_block(out, seat.block());
+    put(out, &seat.first().to_be_bytes());
+    put(out, &seat.second().to_be_bytes());
 }
 
 // Puts seats, which are the last.

@@ -60,14 +60,14 @@ returns-in_err-second-clause-takes c =
     let three_read = passes_on two_read (c.in_ok-block.ensures.takes (after_block number behind kind used)) in
     let four_read = passes_on three_read (c.in_ok-first.ensures.takes (after_first number behind kind used)) in
     let codes : ranged Long c.seconds-least.result.0 c.seconds-least.result.1 ≡ number kind used =
-    c.seconds-least.ensures ∙ ap₂ number c.of_code-kind.ensures (bit_back used c.in_ok-used.ensures.most) in
+    c.seconds-least.ensures.field ∙ ap₂ number c.of_code-kind.ensures (bit_back used c.in_ok-used.ensures.most) in
     fault_behind four_read (subst (λ f. Faults c.number-3.new.self (one f (λ _. behind)) c.in_err-second.field-0.0) codes (c.in_err-second.ensures.takes (λ _. behind))))
 
 pub returns-clause-takes : goal.returns-clause-takes
 returns-clause-takes c =
     let d = c.args.depth in
     let number = second_of c.args.tally.now in
-    rw (c.of_code-kind.ensures, bit_back c.in_ok-used.used c.in_ok-used.ensures.most) (λ behind.
+    rw (c.of.ensures.kind, c.of.ensures.used, c.of.ensures.block, c.of.ensures.first, c.of.ensures.second, c.of_code-kind.ensures, bit_back c.in_ok-used.used c.in_ok-used.ensures.most) (λ behind.
     let kind = c.in_ok-code.code in
     let one_read = c.in_ok-code.ensures.takes (after_kind d number behind) in
     let used = c.in_ok-used.used in
@@ -75,7 +75,7 @@ returns-clause-takes c =
     let three_read = passes_on two_read (c.in_ok-block.ensures.takes (after_block number behind kind used)) in
     let four_read = passes_on three_read (c.in_ok-first.ensures.takes (after_first number behind kind used)) in
     let codes : ranged Long c.seconds-least.result.0 c.seconds-least.result.1 ≡ number kind used =
-    c.seconds-least.ensures ∙ ap₂ number c.of_code-kind.ensures (bit_back used c.in_ok-used.ensures.most) in
+    c.seconds-least.ensures.field ∙ ap₂ number c.of_code-kind.ensures (bit_back used c.in_ok-used.ensures.most) in
     let block = c.in_ok-block.block in
     let first = c.in_ok-first.first in
     let second = c.in_ok-second.second in
