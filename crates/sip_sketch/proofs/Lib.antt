@@ -7,3 +7,13 @@ pub mod SeatFields
 pub mod Seats
 pub mod Apart
 pub mod Putting
+pub mod Whole
+pub mod Totals
+pub mod Kept
+pub mod Runs
+pub mod Raised
+pub mod Begun
+pub mod Sound
+pub mod Lifted
+pub mod Summed
+pub mod Coming

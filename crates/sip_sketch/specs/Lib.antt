@@ -3,4 +3,5 @@ pub mod Fields
 pub mod Reading
 pub mod Seats
 pub mod Sketches
+pub mod Standing
 pub mod inside

@@ -6,7 +6,8 @@ use Rattle.sip_vector.specs.declared.query.Query.TheVariants as queries
 use Rattle.sip_vector.specs.declared.update.Side.{Side}
 use Rattle.sip_vector.specs.declared.update.Side.TheVariants.{First}
 use Rattle.sip_vector.specs.Streams.{most_weight}
-use Rattle.sip_verifier.specs.QuerySeats.{RunningNumbers, root_is, point_is, points_are, aug_root_is}
+use Rattle.sip_verifier.specs.QuerySeats.{RunningNumbers, root_is, point_is, points_are}
+use Rattle.sip_verifier.specs.QuerySeats.{aug_root_is}
 use Rattle.sip_sketch.specs.declared.kind.SeatKind.{SeatKind}
 use Rattle.sip_sketch.specs.declared.kind.SeatKind.TheVariants.{Entries, Sums, Products, Heavy}
 

@@ -1,2 +1,4 @@
+pub mod Beginning
 pub mod Heads
+pub mod Raising
 pub mod Spelling

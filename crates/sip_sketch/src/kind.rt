@@ -1,6 +1,7 @@
 //! What a seat of a sketch serves.
 
 ghost use Rattle.std.specs.Prelude.{◌≡◌, ◌≤◌};
+ghost use Rattle.sip_sketch.specs.Seats.{side_of};
 ghost use Rattle.sip_sketch.specs.Sketches.{code_of};
 
 use sip_vector::Side;
@@ -30,6 +31,16 @@ impl SeatKind {
             SeatKind::Products => 4,
             SeatKind::Heavy(Side::First) => 5,
             SeatKind::Heavy(Side::Second) => 6,
+        }
+    }
+
+    /// The side whose vector it is about; the first, where it is about both.
+    pub(crate) fn side(self) -> Side
+        ensures { result ≡ side_of self }
+    {
+        match self {
+            SeatKind::Entries | SeatKind::Products => Side::First,
+            SeatKind::Sums(side) | SeatKind::Heavy(side) => side,
         }
     }
 

@@ -12,6 +12,10 @@
 //! - [`Sketch::read`] answers a sketch exactly where the bytes are its file, and else the place
 //!   where the first field begins that has none of its values. The digest finds decay and slips of
 //!   the hand; it keeps nobody out, since anybody can make it.
+//! - [`Sketch::begin`] answers a sketch that stands for the empty stream, at the challenges that
+//!   its seed gives. Where a sketch stands for a stream, it stands for the stream and the updates
+//!   behind it after [`Sketch::update_all`], which changes neither the kinds, the uses and the
+//!   challenges of seats nor the numbers of a used one.
 //! - [`Sketch::write`] writes that file, and takes memory only where there is less room than the
 //!   file has bytes ([`Sketch::size`]).
 //!
@@ -21,6 +25,7 @@
 //! |---|---|
 //! | `Fields` | files of numbers, each of which says what stands behind it: spelling and reading |
 //! | `Seats` | what a seat keeps of a stream, and the two numbers by which its file says it |
+//! | `Standing` | which streams a sketch stands for, and what one is that begins |
 //! | `Sketches` | what a sketch has, its numbers in their order, the fields of its file |
 //! | `Reading` | what reading answers, and the sketch or the fault that this is |
 //! | `Examples` | what the examples work out |
@@ -28,6 +33,7 @@
 //! [`examples`] has two files with their digests, and the first faults of others.
 #![tactic(auto)]
 
+mod beginning;
 mod cursor;
 pub mod examples;
 mod fault;
@@ -37,10 +43,13 @@ mod parts;
 mod reading;
 mod seat;
 mod sketch;
+mod updating;
 mod writing;
 
+pub use beginning::BeginFault;
 pub use fault::SketchFault;
 pub use kind::SeatKind;
 pub use parts::Parts;
 pub use seat::SketchSeat;
 pub use sketch::Sketch;
+pub use updating::MOST_UPDATES;

@@ -1,17 +1,28 @@
 //! A seat of a sketch: what one question is asked by.
 
-ghost use Rattle.std.specs.Prelude.{◌≡◌, ◌<◌, ◌≤◌, pos, ◌+ℤ◌, nat_abs, IsTrue, length};
+ghost use Rattle.std.specs.Prelude.{◌≡◌, ◌<◌, ◌≤◌, ◌^◌, ◌++◌, ℕ, pos, ◌+ℤ◌, nat_abs, List, []};
+ghost use Rattle.std.specs.Prelude.{length, All, IsTrue, false, true};
 ghost use Rattle.sip_field.specs.Moduli.{m61_modulus};
-ghost use Rattle.sip_vector.specs.Streams.{most_weight};
-ghost use Rattle.sip_verifier.specs.QuerySeats.{keeps};
+ghost use Rattle.sip_vector.specs.Limits.{most_depth};
+ghost use Rattle.sip_vector.specs.Streams.{most_weight, of_side};
+ghost use Rattle.sip_vector.specs.Tallies.{tally};
+ghost use Rattle.sip_vector.specs.declared.query.Query.{Query as AnyQuery};
+ghost use Rattle.sip_vector.specs.declared.update.Side.TheVariants as sides;
+ghost use Rattle.sip_vector.specs.declared.update.Update.{Update as AnyUpdate};
+ghost use Rattle.sip_verifier.specs.QuerySeats.{HasRoom, RunsOn, keeps};
 ghost use Rattle.sip_verifier.specs.Running.{block_of, numbers_of};
-ghost use Rattle.sip_sketch.specs.Seats.{IsSecond, first_number, query_of, second_number};
+ghost use Rattle.sip_sketch.specs.Seats.{IsSecond, first_number, numbers_kept, query_of};
+ghost use Rattle.sip_sketch.specs.Seats.{second_number, side_of};
+ghost use Rattle.sip_sketch.specs.Standing.{SeatStands};
+ghost use Rattle.sip_sketch.specs.declared.kind.SeatKind.{SeatKind as AnyKind};
+ghost use Rattle.sip_sketch.specs.inside.Raising.{HasSecond, IsRaised, IsTotalAfter, own_of};
+ghost use Rattle.sip_sketch.specs.inside.Raising.{StartsAt};
 
 use crate::SeatKind;
 use sip_field::{Field, M61, Seat};
 use sip_mle::Point;
 use sip_tree::{AugRoot, Root};
-use sip_vector::CAP;
+use sip_vector::{CAP, Side, Update};
 use sip_verifier::{Points, Running};
 use std::marker::Model;
 
@@ -82,8 +93,67 @@ fn second_of(running: &Running) -> u64
     }
 }
 
-/// A seat: what it serves, whether a question has used it, and what it keeps of the stream, with its
-/// challenges. Whoever knows the challenges can make any answer accepted, so none is shown.
+// The running numbers of a kind before any update, at these challenges.
+fn begun(kind: SeatKind, block: Seat<M61, CAP>) -> Running
+    ensures keeps { IsTrue (keeps (query_of kind) (numbers_of result)) }
+    ensures block { block_of result ≡ block }
+    ensures starts { StartsAt (numbers_of result) }
+    ensures runs { (depth : ℕ) → length block ≡ depth
+        → RunsOn depth [] (query_of kind) (block_of result) (numbers_of result) }
+{
+    match kind {
+        SeatKind::Entries => Running::Root(Root::new(block)),
+        SeatKind::Sums(_) => Running::Point(Point::new(block)),
+        SeatKind::Products => Running::Points(Points::new(block)),
+        SeatKind::Heavy(_) => Running::AugRoot(AugRoot::new(block)),
+    }
+}
+
+// The updates of a side.
+fn own_of<'a>(side: Side, firsts: &'a [Update], seconds: &'a [Update]) -> &'a [Update]
+    ensures { result.now ≡ own_of side firsts.now seconds.now }
+{
+    match side {
+        Side::First => firsts,
+        Side::Second => seconds,
+    }
+}
+
+// Adds updates to running numbers: those of the side, or of both sides where they are of both. What
+// a total comes to is to be told too, so it is not left to the numbers of a query.
+fn raise(running: &mut Running, side: Side, firsts: &[Update], seconds: &[Update])
+    requires shallow { length (block_of running.old) ≤ most_depth }
+    requires firsts { All (λ u. u.item < 2 ^ length (block_of running.old)) firsts.now }
+    requires seconds { All (λ u. u.item < 2 ^ length (block_of running.old)) seconds.now }
+    requires first_side { All (λ u. u.side ≡ sides.First) firsts.now }
+    requires second_side { All (λ u. u.side ≡ sides.Second) seconds.now }
+    requires room { HasRoom (numbers_of running.old) (own_of side firsts.now seconds.now) }
+    ensures block { block_of running.new ≡ block_of running.old }
+    ensures keeps { (query : AnyQuery) → keeps query (numbers_of running.new)
+        ≡ keeps query (numbers_of running.old) }
+    ensures total { IsTotalAfter (numbers_of running.old) (own_of side firsts.now seconds.now)
+        (numbers_of running.new) }
+    ensures runs { (depth : ℕ) (stream updates : List AnyUpdate) (kind : AnyKind)
+        → side_of kind ≡ side → firsts.now ≡ of_side updates sides.First
+        → seconds.now ≡ of_side updates sides.Second
+        → RunsOn depth stream (query_of kind) (block_of running.old) (numbers_of running.old)
+        → RunsOn depth (stream ++ updates) (query_of kind) (block_of running.new)
+        (numbers_of running.new) }
+{
+    let own = own_of(side, firsts, seconds);
+    match running {
+        Running::Root(root) => root.update_all(own),
+        Running::Point(point) => point.update_all(own),
+        Running::Points(points) => {
+            points.update_all(Side::First, firsts);
+            points.update_all(Side::Second, seconds);
+        }
+        Running::AugRoot(root) => root.update_all(own),
+    }
+}
+
+/// A seat: what it serves, whether a question has used it, and what it keeps of the stream, with
+/// its challenges. Whoever knows the challenges can make any answer accepted, so none is shown.
 #[derive(Drop)]
 pub struct SketchSeat {
     pub(crate) kind: SeatKind,
@@ -133,6 +203,42 @@ impl SketchSeat {
             kind,
             is_used,
             running,
+        }
+    }
+
+    /// An unused seat at these challenges, before any update.
+    pub(crate) fn begin(kind: SeatKind, block: Seat<M61, CAP>) -> SketchSeat
+        ensures kind { result.kind ≡ kind }
+        ensures unused { result.is_used ≡ false }
+        ensures block { result.block ≡ block }
+        ensures first { result.first < m61_modulus }
+        ensures second { HasSecond (tally []) result }
+        ensures stands { (depth : ℕ) → length block ≡ depth → SeatStands depth [] result }
+    {
+        let running = begun(kind, block);
+        SketchSeat {
+            kind,
+            is_used: false,
+            running,
+        }
+    }
+
+    /// Adds updates, which are split by side, where no question has used the seat.
+    pub(crate) fn update_all(&mut self, firsts: &[Update], seconds: &[Update])
+        requires shallow { length self.old.block ≤ most_depth }
+        requires firsts { All (λ u. u.item < 2 ^ length self.old.block) firsts.now }
+        requires seconds { All (λ u. u.item < 2 ^ length self.old.block) seconds.now }
+        requires first_side { All (λ u. u.side ≡ sides.First) firsts.now }
+        requires second_side { All (λ u. u.side ≡ sides.Second) seconds.now }
+        requires room { self.old.is_used ≡ false
+            → HasRoom (numbers_kept self.old.kind self.old.first self.old.second)
+            (own_of (side_of self.old.kind) firsts.now seconds.now) }
+        ensures raised { (updates : List AnyUpdate) → firsts.now ≡ of_side updates sides.First
+            → seconds.now ≡ of_side updates sides.Second → IsRaised updates self.old self.new }
+    {
+        if !self.is_used {
+            let side = self.kind.side();
+            raise(&mut self.running, side, firsts, seconds);
         }
     }
 

@@ -1,0 +1,137 @@
+-- Running numbers before any update, and behind more of them.
+use Rattle.std.proofs.Common.{◌≡◌, ℕ, ◌^◌, true, false, ℤ, pos, List, [], ◌∷◌, ◌++◌, length, replicate, refl, sym, ap, subst, ◌∙◌, inl, inr}
+use Rattle.std.proofs.lemmas.Bool.{cases_Bool}
+use Rattle.sip_field.specs.Moduli.{m61_modulus}
+use Rattle.sip_mle.specs.StandsFor.{PointStandsFor}
+use Rattle.sip_tree.specs.StandsFor.{RootStandsFor, AugRootStandsFor}
+use Rattle.sip_vector.specs.Streams.{same_side, of_side, vector}
+use Rattle.sip_vector.specs.Weights.{numbers_after}
+use Rattle.sip_vector.specs.declared.update.Side.{Side}
+use Rattle.sip_vector.specs.declared.update.Side.TheVariants.{First, Second}
+use Rattle.sip_vector.specs.declared.update.Update.{Update}
+use Rattle.sip_vector.proofs.Sides.{vector-nil}
+use Rattle.sip_vector.proofs.TreeStreams.{vector_goes_on}
+use Rattle.sip_verifier.specs.QuerySeats.{RunsOn, root_is, point_is, points_are, aug_root_is}
+use Rattle.sip_sketch.specs.declared.kind.SeatKind.{SeatKind}
+use Rattle.sip_sketch.specs.declared.kind.SeatKind.TheVariants.{Entries, Sums, Products, Heavy}
+use Rattle.sip_sketch.specs.Seats.{query_of, side_of}
+use Rattle.sip_sketch.specs.inside.Raising.{own_of}
+
+-- ---- the updates of a side
+
+pub same_true : (one other : Side) → same_side one other ≡ true → one ≡ other
+same_true First First is = refl
+same_true First Second is = absurd cc
+same_true Second First is = absurd cc
+same_true Second Second is = refl
+
+-- those of a side have that side alone
+pub side_twice : (us : List Update) (side : Side) → of_side (of_side us side) side ≡ of_side us side
+side_twice [] side = refl
+side_twice (u ∷ us) side = elim (cases_Bool (same_side u.side side)) [
+  | inl here ↦ rw here (rw here (ap (λ l. u ∷ l) (side_twice us side)))
+  | inr other ↦ rw other (side_twice us side)
+]
+
+pub side_none : (us : List Update) (one other : Side) → same_side one other ≡ false → of_side (of_side us one) other ≡ []
+side_none [] one other apart = refl
+side_none (u ∷ us) one other apart = elim (cases_Bool (same_side u.side one)) [
+  | inl here ↦
+      let there : same_side u.side other ≡ false = ap (λ s. same_side s other) (same_true u.side one here) ∙ apart in
+      rw here (rw there (side_none us one other apart))
+  | inr away ↦ rw away (side_none us one other apart)
+]
+
+-- ---- more updates
+
+module _ (depth : ℕ) (stream updates : List Update) (block block' : List ℕ) where
+  root_on : (value value' : ℕ) (side : Side) → ((numbers : List ℤ) → RootStandsFor m61_modulus block value numbers → RootStandsFor m61_modulus block' value' (numbers_after numbers (of_side updates side)))
+      → RootStandsFor m61_modulus block value (vector depth stream side) → RootStandsFor m61_modulus block' value' (vector depth (stream ++ updates) side)
+  root_on value value' side raised stands =
+      subst (RootStandsFor m61_modulus block' value') (sym (vector_goes_on depth stream updates side)) (raised (vector depth stream side) stands)
+
+  point_on : (value value' : ℕ) (side : Side) → ((numbers : List ℤ) → PointStandsFor m61_modulus block value numbers → PointStandsFor m61_modulus block' value' (numbers_after numbers (of_side updates side)))
+      → PointStandsFor m61_modulus block value (vector depth stream side) → PointStandsFor m61_modulus block' value' (vector depth (stream ++ updates) side)
+  point_on value value' side raised stands =
+      subst (PointStandsFor m61_modulus block' value') (sym (vector_goes_on depth stream updates side)) (raised (vector depth stream side) stands)
+
+  aug_root_on : (hash hash' : ℕ) (total total' : ℤ) (side : Side)
+      → ((numbers : List ℤ) → AugRootStandsFor m61_modulus block hash total numbers → AugRootStandsFor m61_modulus block' hash' total' (numbers_after numbers (of_side updates side)))
+      → AugRootStandsFor m61_modulus block hash total (vector depth stream side) → AugRootStandsFor m61_modulus block' hash' total' (vector depth (stream ++ updates) side)
+  aug_root_on hash hash' total total' side raised stands =
+      subst (AugRootStandsFor m61_modulus block' hash' total') (sym (vector_goes_on depth stream updates side)) (raised (vector depth stream side) stands)
+
+  pub root_further : (kind : SeatKind) (own : List Update) (value value' : ℕ) → own ≡ of_side updates (side_of kind)
+      → ((numbers : List ℤ) → RootStandsFor m61_modulus block value numbers → RootStandsFor m61_modulus block' value' (numbers_after numbers own))
+      → RunsOn depth stream (query_of kind) block (root_is value) → RunsOn depth (stream ++ updates) (query_of kind) block' (root_is value')
+  root_further Entries own value value' is raised stands =
+      root_on value value' First (subst (λ (l : List Update). (numbers : List ℤ) → RootStandsFor m61_modulus block value numbers → RootStandsFor m61_modulus block' value' (numbers_after numbers l)) is raised) stands
+  root_further (Sums side) own value value' is raised stands = absurd stands
+  root_further Products own value value' is raised stands = absurd stands
+  root_further (Heavy side) own value value' is raised stands = absurd stands
+
+  pub point_further : (kind : SeatKind) (own : List Update) (value value' : ℕ) → own ≡ of_side updates (side_of kind)
+      → ((numbers : List ℤ) → PointStandsFor m61_modulus block value numbers → PointStandsFor m61_modulus block' value' (numbers_after numbers own))
+      → RunsOn depth stream (query_of kind) block (point_is value) → RunsOn depth (stream ++ updates) (query_of kind) block' (point_is value')
+  point_further Entries own value value' is raised stands = absurd stands
+  point_further (Sums side) own value value' is raised stands =
+      point_on value value' side (subst (λ (l : List Update). (numbers : List ℤ) → PointStandsFor m61_modulus block value numbers → PointStandsFor m61_modulus block' value' (numbers_after numbers l)) is raised) stands
+  point_further Products own value value' is raised stands = absurd stands
+  point_further (Heavy side) own value value' is raised stands = absurd stands
+
+  pub points_further : (kind : SeatKind) (first second first' second' : ℕ)
+      → ((numbers : List ℤ) → PointStandsFor m61_modulus block first numbers → PointStandsFor m61_modulus block' first' (numbers_after numbers (of_side updates First)))
+      → ((numbers : List ℤ) → PointStandsFor m61_modulus block second numbers → PointStandsFor m61_modulus block' second' (numbers_after numbers (of_side updates Second)))
+      → RunsOn depth stream (query_of kind) block (points_are first second) → RunsOn depth (stream ++ updates) (query_of kind) block' (points_are first' second')
+  points_further Entries first second first' second' one other stands = absurd stands
+  points_further (Sums side) first second first' second' one other stands = absurd stands
+  points_further Products first second first' second' one other stands =
+      (point_on first first' First one stands.0, point_on second second' Second other stands.1)
+  points_further (Heavy side) first second first' second' one other stands = absurd stands
+
+  pub aug_root_further : (kind : SeatKind) (own : List Update) (hash hash' : ℕ) (total total' : ℤ) → own ≡ of_side updates (side_of kind)
+      → ((numbers : List ℤ) → AugRootStandsFor m61_modulus block hash total numbers → AugRootStandsFor m61_modulus block' hash' total' (numbers_after numbers own))
+      → RunsOn depth stream (query_of kind) block (aug_root_is hash total) → RunsOn depth (stream ++ updates) (query_of kind) block' (aug_root_is hash' total')
+  aug_root_further Entries own hash hash' total total' is raised stands = absurd stands
+  aug_root_further (Sums side) own hash hash' total total' is raised stands = absurd stands
+  aug_root_further Products own hash hash' total total' is raised stands = absurd stands
+  aug_root_further (Heavy side) own hash hash' total total' is raised stands =
+      aug_root_on hash hash' total total' side (subst (λ (l : List Update). (numbers : List ℤ) → AugRootStandsFor m61_modulus block hash total numbers → AugRootStandsFor m61_modulus block' hash' total' (numbers_after numbers l)) is raised) stands
+
+-- both sides' updates, one side's behind the other's, are each side's
+pub both_after : (updates firsts seconds : List Update) (numbers : List ℤ) → firsts ≡ of_side updates First → seconds ≡ of_side updates Second
+    → (numbers_after (numbers_after numbers (of_side firsts First)) (of_side seconds First) ≡ numbers_after numbers (of_side updates First))
+    × (numbers_after (numbers_after numbers (of_side firsts Second)) (of_side seconds Second) ≡ numbers_after numbers (of_side updates Second))
+both_after updates firsts seconds numbers is also =
+    let one : of_side firsts First ≡ of_side updates First = ap (λ l. of_side l First) is ∙ side_twice updates First in
+    let empty : of_side seconds First ≡ [] = ap (λ l. of_side l First) also ∙ side_none updates Second First refl in
+    let without : of_side firsts Second ≡ [] = ap (λ l. of_side l Second) is ∙ side_none updates First Second refl in
+    let other : of_side seconds Second ≡ of_side updates Second = ap (λ l. of_side l Second) also ∙ side_twice updates Second in (
+      ap (numbers_after (numbers_after numbers (of_side firsts First))) empty ∙ ap (numbers_after numbers) one,
+      ap (λ l. numbers_after (numbers_after numbers l) (of_side seconds Second)) without ∙ ap (numbers_after numbers) other,
+    )
+
+-- ---- no update
+
+module _ (depth : ℕ) (block : List ℕ) (size : length block ≡ depth) where
+  pub root_of_none : (value : ℕ) (side : Side) → RootStandsFor m61_modulus block value (replicate (2 ^ length block) (pos 0))
+      → RootStandsFor m61_modulus block value (vector depth [] side)
+  root_of_none value side stands = rw (vector-nil depth side)
+      (subst (λ n. RootStandsFor m61_modulus block value (replicate (2 ^ n) (pos 0))) size stands)
+
+  pub point_of_none : (value : ℕ) (side : Side) → PointStandsFor m61_modulus block value (replicate (2 ^ length block) (pos 0))
+      → PointStandsFor m61_modulus block value (vector depth [] side)
+  point_of_none value side stands = rw (vector-nil depth side)
+      (subst (λ n. PointStandsFor m61_modulus block value (replicate (2 ^ n) (pos 0))) size stands)
+
+  pub aug_root_of_none : (hash : ℕ) (total : ℤ) (side : Side)
+      → AugRootStandsFor m61_modulus block hash total (replicate (2 ^ length block) (pos 0))
+      → AugRootStandsFor m61_modulus block hash total (vector depth [] side)
+  aug_root_of_none hash total side stands = rw (vector-nil depth side)
+      (subst (λ n. AugRootStandsFor m61_modulus block hash total (replicate (2 ^ n) (pos 0))) size stands)
+
+-- the updates of a kind's side are its own
+pub own_is : (kind : SeatKind) (side : Side) (updates firsts seconds : List Update) → side_of kind ≡ side
+    → firsts ≡ of_side updates First → seconds ≡ of_side updates Second → own_of side firsts seconds ≡ of_side updates (side_of kind)
+own_is kind First updates firsts seconds sided one other = one ∙ ap (of_side updates) (sym sided)
+own_is kind Second updates firsts seconds sided one other = other ∙ ap (of_side updates) (sym sided)

@@ -1,0 +1,25 @@
+-- The seats of a sketch that begins, one after another.
+use Rattle.std.specs.Prelude.{◌≡◌, ℕ, ◌<◌, false, List, [], length, map, take, All}
+use Rattle.sip_field.specs.Moduli.{m61_modulus}
+use Rattle.sip_vector.specs.Pieces.{pieces}
+use Rattle.sip_vector.specs.Tallies.{tally}
+use Rattle.sip_sketch.specs.Sketches.{SeatValues}
+use Rattle.sip_sketch.specs.Standing.{SeatStands}
+use Rattle.sip_sketch.specs.declared.kind.SeatKind.{SeatKind}
+use Rattle.sip_sketch.specs.inside.Raising.{HasSecond}
+
+-- an unused seat of no update
+pub record BeginsAt (depth : ℕ) (s : SeatValues) : Type 0 where
+  pub unused : s.is_used ≡ false
+  pub levels : length s.block ≡ depth
+  pub block : All (λ r. r < m61_modulus) s.block
+  pub first : s.first < m61_modulus
+  pub second : HasSecond (tally []) s
+  pub stands : SeatStands depth [] s
+
+-- those of the first so many kinds, each with the next piece of these numbers
+pub record AreBegun (levels count : ℕ) (asked : List SeatKind) (numbers : List ℕ)
+    (seats : List SeatValues) : Type 0 where
+  pub kinds : map (λ s. s.kind) seats ≡ take count asked
+  pub blocks : map (λ s. s.block) seats ≡ pieces levels count numbers
+  pub each : All (BeginsAt levels) seats
