@@ -7,7 +7,6 @@ ghost use Rattle.sip_vector.specs.Tallies.{tally};
 ghost use Rattle.sip_verifier.specs.Draws.{challenges_of};
 ghost use Rattle.sip_sketch.specs.Sketches.{most_seats};
 ghost use Rattle.sip_sketch.specs.Standing.{IsBegun};
-ghost use Rattle.sip_sketch.specs.inside.Beginning.{AreBegun};
 ghost use Rattle.sip_sketch.specs.declared.beginning.BeginFault.TheVariants.{OutOfMemory};
 ghost use Rattle.sip_sketch.specs.inside.Beginning.{AreBegun};
 ghost use Rattle.sip_sketch.specs.declared.beginning.BeginFault.TheVariants as faults;
