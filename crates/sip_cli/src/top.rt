@@ -90,10 +90,10 @@ pub fn obey<A: Source, B: Source, L: Link, K: Sink, C: Sink>(
 
     // Of a command that checks queries, which sides had a delta below 0; others leave it alone.
     ensures negatives { MatchOption (checked_task command.now)
+        (negatives.new ≡ negatives.old)
         (λ task. (bytes seed : List ℕ)
         → A.left first.old ≡ Some bytes → B.left second.old ≡ Some seed
-        → NegativesClause task bytes result negatives.new)
-        (negatives.new ≡ negatives.old) }
+        → NegativesClause task bytes result negatives.new) }
 
     // Counts of faults and of wants of memory never fall.
     ensures first { Lasts A.faults A.wants A.is_sure first.old first.new }
