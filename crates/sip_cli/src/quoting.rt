@@ -1,9 +1,9 @@
 //! How a word of a command stands in a line.
 
-ghost use Rattle.std.specs.Prelude.{◌≡◌, ◌+◌, ◌*◌, ◌≤◌, ◌<◌, ◌++◌, length};
+ghost use Rattle.std.specs.Prelude.{◌≡◌, ◌+◌, ◌*◌, ◌≤◌, ◌<◌, ◌++◌, length, take};
 ghost use Rattle.std.specs.List.{flat_map};
 ghost use Rattle.arrayvec.specs.ArrayVec.{array_vec_len};
-ghost use Rattle.sip_cli.specs.Quoting.{hex_digit, quote_end, quoted, shown};
+ghost use Rattle.sip_cli.specs.Quoting.{hex_digit, most_quoted, quote_end, quoted, shown};
 
 use arrayvec::ArrayVec;
 use sip_stream::text::put;
@@ -54,6 +54,14 @@ fn put_bytes<const ROOM: usize>(gathered: &mut ArrayVec<u8, ROOM>, bytes: &[u8])
     }
 }
 
+// The bytes that are shown.
+fn front(bytes: &[u8]) -> &[u8]
+    ensures front { result.now ≡ take most_quoted bytes.now }
+    ensures short { length result.now ≤ MOST_QUOTED }
+{
+    &bytes[..bytes.len().min(MOST_QUOTED)]
+}
+
 // What ends a quoted word.
 fn quote_end(is_longer: bool) -> &'static str
     ensures end { result.now ≡ quote_end is_longer }
@@ -71,6 +79,6 @@ pub(crate) fn put_quoted<const ROOM: usize>(gathered: &mut ArrayVec<u8, ROOM>, w
 {
     let bytes = word.as_bytes();
     put(gathered, b"\"");
-    put_bytes(gathered, &bytes[..bytes.len().min(MOST_QUOTED)]);
+    put_bytes(gathered, front(bytes));
     put(gathered, quote_end(MOST_QUOTED < bytes.len()).as_bytes());
 }

@@ -1,7 +1,7 @@
 use Rattle.sip_cli.proofs.advice.other_line.Goals as goal
 
 pub returns-in-Some : goal.returns-in-Some
-returns-in-Some c = (
+returns-in-Some c = rw c.in-Some.is (
   c.place_of.result,
   c.place_of.ensures,
   let made = c.file_line.ensures in

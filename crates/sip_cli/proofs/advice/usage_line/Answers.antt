@@ -6,5 +6,5 @@ returns c = λ noted. (
   c.place_of.ensures,
   let made = c.refused_line.ensures in
       let said = c.hint.ensures.hint in
-      let same = c.get.ensures in cc,
+      let same = c.get-word.ensures in cc,
 )
