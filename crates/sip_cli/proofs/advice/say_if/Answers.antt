@@ -1,1 +1,0 @@
-use Rattle.sip_cli.proofs.advice.say_if.Goals as goal
