@@ -76,19 +76,8 @@ fn sparing(rt: &HostRuntime, words: &Words, plan: &PortPlan) -> PortPlan
     })
 }
 
-/// The file that an opening gave, or why there is none, which is noted.
-fn noting(file: io::Result<File>, opening: Opening, note: &mut Option<Unopened>) -> Option<File> {
-    match file {
-        Ok(file) => Some(file),
-        Err(error) => {
-            *note = Unopened::of(opening, Trouble::of(&error));
-            None
-        }
-    }
-}
-
-/// A file to read. None is opened that the words do not name. A directory can be opened, but not
-/// read.
+/// A file to read, or why there is none, which is noted. None is opened that the words do not name.
+/// A directory can be opened, but not read.
 fn opened(
     rt: &HostRuntime,
     words: &Words,
@@ -97,12 +86,18 @@ fn opened(
 ) -> Option<File>
     ensures { file_name opening words.now ≡ None → result ≡ None }
 {
-    let name = opening.name(words)?;
-    let file = noting(File::open(rt, name), opening, note)?;
-    if file.metadata().is_ok_and(|told| told.is_dir()) {
-        *note = Unopened::of(opening, Trouble::Directory);
+    match File::open(rt, opening.name(words)?) {
+        Ok(file) => {
+            if file.metadata().is_ok_and(|told| told.is_dir()) {
+                *note = Unopened::of(opening, Trouble::Directory);
+            }
+            Some(file)
+        }
+        Err(error) => {
+            *note = Unopened::of(opening, Trouble::of(&error));
+            None
+        }
     }
-    Some(file)
 }
 
 /// What the file of a seed is like, if it is a regular one, which is opened once more for a look.
@@ -118,7 +113,8 @@ fn seed_look(rt: &HostRuntime, words: &Words, opening: Opening) -> Option<SeedLo
     Some(SeedLook::of(&front[..count], mode))
 }
 
-/// A file to write, which is made or emptied. None is that the words do not name.
+/// A file to write, which is made or emptied, or why there is none, which is noted. None is that the
+/// words do not name.
 fn emptied(
     rt: &HostRuntime,
     words: &Words,
@@ -127,8 +123,13 @@ fn emptied(
 ) -> Option<File>
     ensures { file_name opening words.now ≡ None → result ≡ None }
 {
-    let name = opening.name(words)?;
-    noting(File::create(rt, name), opening, note)
+    match File::create(rt, opening.name(words)?) {
+        Ok(file) => Some(file),
+        Err(error) => {
+            *note = Unopened::of(opening, Trouble::of(&error));
+            None
+        }
+    }
 }
 
 /// Standard error and the system's clock, for the lines of `--progress`.
