@@ -17,3 +17,4 @@ pub mod Sound
 pub mod Lifted
 pub mod Summed
 pub mod Coming
+pub mod Next

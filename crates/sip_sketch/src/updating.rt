@@ -1,15 +1,18 @@
 //! Adds more of a stream to a sketch.
 
-ghost use Rattle.std.specs.Prelude.{◌≡◌, ◌≤◌, ◌++◌, List, length, true, sum_by, nat_abs};
+ghost use Rattle.std.specs.Prelude.{◌≡◌, ◌≤◌, ◌↔◌, ◌++◌, ◌∷◌, [], List, length, true, IsTrue};
+ghost use Rattle.std.specs.Prelude.{sum_by, nat_abs};
 ghost use Rattle.std.specs.List.{AllZip};
-ghost use Rattle.sip_vector.specs.Streams.{most_weight, of_side};
+ghost use Rattle.sip_vector.specs.Streams.{most_weight, of_side, weight};
 ghost use Rattle.sip_vector.specs.Tallies.{joined, tally};
 ghost use Rattle.sip_vector.specs.declared.update.Side.TheVariants as sides;
 ghost use Rattle.sip_vector.specs.declared.update.Update.{Update as AnyUpdate};
 ghost use Rattle.sip_sketch.specs.Standing.{IsKept, MayCome, Stands};
+ghost use Rattle.sip_sketch.specs.inside.Raising.{IsNext};
 
 use crate::Sketch;
-use sip_vector::{Fingerprint, Negatives, Side, Tally, Update, take_side};
+use crate::reading::MOST_WEIGHT;
+use sip_vector::{Depth, Fingerprint, Negatives, Side, Tally, Update, take_side};
 
 /// The most updates that [`Sketch::update_all`] takes at once.
 pub const MOST_UPDATES: usize = 512;
@@ -47,8 +50,52 @@ fn told(updates: &[Update], first: u64, second: u64) -> Tally
     }
 }
 
+// How much an update adds to the weight of each side.
+fn sizes(update: &Update) -> (u64, u64)
+    ensures first { result.0 ≡ weight (update.now ∷ []) sides.First }
+    ensures second { result.1 ≡ weight (update.now ∷ []) sides.Second }
+{
+    let size = update.delta.unsigned_abs();
+    match update.side {
+        Side::First => (size, 0),
+        Side::Second => (0, size),
+    }
+}
+
+// Whether an update may come next, where these are the weights of the sides so far.
+fn is_next(depth: Depth, first: u64, second: u64, update: &Update) -> bool
+    requires first { first ≤ most_weight }
+    requires second { second ≤ most_weight }
+    ensures { IsTrue result ↔ IsNext depth first second update.now }
+{
+    let (more, other) = sizes(update);
+    update.item < 1 << depth.get()
+        && update.delta != 0
+        && more <= MOST_WEIGHT - first
+        && other <= MOST_WEIGHT - second
+}
+
 impl Sketch {
-    /// Adds a block of updates to what is told of the stream and to each unused seat.
+    /// Whether these updates may come next: each is one of a legal stream, and the weights stay
+    /// within 2^30 - 1.
+    pub fn takes(&self, updates: &[Update]) -> bool
+        ensures { IsTrue result ↔ MayCome self.now updates.now }
+    {
+        let mut first = self.tally.first;
+        let mut second = self.tally.second;
+        for update in updates {
+            if !is_next(self.depth, first, second, update) {
+                return false;
+            }
+            let (more, other) = sizes(update);
+            first += more;
+            second += other;
+        }
+        true
+    }
+
+    /// Adds a block of updates, which may come next ([`Sketch::takes`]), to what is told of the
+    /// stream and to each unused seat.
     ///
     /// The block is split by side once, for all seats. Then an update takes, for each seat that it
     /// concerns, one look-up and one multiplication for each seven levels; their tables are made

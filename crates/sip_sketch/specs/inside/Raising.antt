@@ -1,5 +1,5 @@
 -- A seat before and after more of a stream.
-use Rattle.std.specs.Prelude.{◌≡◌, ℕ, ◌<◌, false, true, pos, ⊤, List, ◌++◌}
+use Rattle.std.specs.Prelude.{◌≡◌, ◌≢◌, ℕ, ◌+◌, ◌^◌, ◌<◌, ◌≤◌, false, true, pos, ⊤, List, [], ◌∷◌, ◌++◌}
 use Rattle.std.specs.Int.{from_bool}
 use Rattle.sip_field.specs.Moduli.{m61_modulus}
 use Rattle.sip_tree.specs.Blocks.{total_after}
@@ -7,6 +7,7 @@ use Rattle.sip_vector.specs.declared.tally.Tally.{Tally}
 use Rattle.sip_vector.specs.declared.update.Side.{Side}
 use Rattle.sip_vector.specs.declared.update.Side.TheVariants.{First, Second}
 use Rattle.sip_vector.specs.declared.update.Update.{Update}
+use Rattle.sip_vector.specs.Streams.{most_weight, weight}
 use Rattle.sip_vector.specs.Tallies.{joined, tally}
 use Rattle.sip_verifier.specs.QuerySeats.{RunningNumbers, aug_root_is}
 use Rattle.sip_sketch.specs.Fields.{IsValue}
@@ -32,6 +33,13 @@ abbrev pub IsTotalAfter : RunningNumbers → List Update → RunningNumbers → 
 IsTotalAfter (aug_root_is hash total) own (aug_root_is hash' total') =
     total' ≡ total_after total own
 IsTotalAfter _ own _ = ⊤
+
+-- an update may come next, where these are the weights of the sides so far
+pub record IsNext (depth first second : ℕ) (u : Update) : Type 0 where
+  pub item : u.item < 2 ^ depth
+  pub delta : u.delta ≢ pos 0
+  pub first_side : first + weight (u ∷ []) First ≤ most_weight
+  pub second_side : second + weight (u ∷ []) Second ≤ most_weight
 
 -- these updates came to the seat, where it is not used
 pub record IsRaised (updates : List Update) (old new : SeatValues) : Type 0 where
