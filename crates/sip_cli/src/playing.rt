@@ -35,7 +35,7 @@ pub(crate) fn honest(alloc: Global) -> Result<Box<Honest>, OutOfMemory>
 // The skewed helper, on the heap.
 #[inline(never)]
 pub(crate) fn skewed(alloc: Global) -> Result<Box<Skewed>, OutOfMemory> {
-    Ok(Box::new(alloc, Skewed::new(alloc))?)
+    Ok(Box::new(alloc, Skewed::new(alloc)?)?)
 }
 
 // A link to a boxed helper, which is the one of this name: so much is asked of the name, and what

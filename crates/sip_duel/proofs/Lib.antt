@@ -15,3 +15,4 @@ pub mod FaultLemmas
 pub mod StreamLemmas
 pub mod DoneLemmas
 pub mod AcceptLemmas
+pub mod SkewLemmas
