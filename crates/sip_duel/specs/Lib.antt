@@ -1,6 +1,7 @@
 pub mod Accepting
 pub mod Helping
 pub mod Lying
+pub mod Muting
 pub mod Receiving
 pub mod Skewing
 pub mod Story
