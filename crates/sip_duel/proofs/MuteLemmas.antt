@@ -1,5 +1,5 @@
 -- A run over a talk in which nothing was received rejects a query only where its first reply was due.
-use Rattle.std.proofs.Common.{◌≡◌, ℕ, ◌≤◌, List, [], ◌∷◌, ◌++◌, length, take, map, None, Some, Result, Err, refl, sym, ap, ◌∙◌, subst, append-nil, arith}
+use Rattle.std.proofs.Common.{◌≡◌, ℕ, ◌≤◌, List, [], ◌∷◌, ◌++◌, length, take, map, Some, Result, Err, refl, sym, ap, ◌∙◌, subst, append-nil, arith}
 use Rattle.std.specs.Prelude.{All}
 use Rattle.std.specs.List.{flat_map}
 use Rattle.std.proofs.Math.Seq.{take-nil}
@@ -13,9 +13,7 @@ use Rattle.sip_vector.specs.Answers.{Answer}
 use Rattle.sip_vector.specs.Steps.{◌>>=◌}
 use Rattle.sip_vector.specs.declared.query.Query.{Query}
 use Rattle.sip_vector.specs.declared.update.Update.{Update}
-use Rattle.sip_wire.specs.declared.message.Message.{Message}
 use Rattle.sip_wire.specs.declared.message.Message.TheVariants as messages
-use Rattle.sip_wire.specs.declared.message.Reason.{Reason}
 use Rattle.sip_wire.specs.declared.message.Reason.TheVariants as reasons
 use Rattle.sip_wire.specs.declared.version.Version.{Version}
 use Rattle.sip_replies.specs.Protocols.{Protocol, Rules}
@@ -23,7 +21,6 @@ use Rattle.sip_replies.specs.Replies as replied
 use Rattle.sip_replies.specs.Replies.{Fault, in_round, read_reply, verdict}
 use Rattle.sip_replies.specs.Talks.{asked, asked_unless, ending, exchanged, sent}
 use Rattle.sip_verifier.specs.declared.status.Status.{Status}
-use Rattle.sip_verifier.specs.declared.status.Status.TheVariants as statuses
 use Rattle.sip_verifier.specs.declared.task.Task.{Task}
 use Rattle.sip_verifier.specs.Draws.{blocks}
 use Rattle.sip_verifier.specs.Exchanges.{Exchange, Tells}

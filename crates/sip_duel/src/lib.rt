@@ -19,10 +19,10 @@
 //! - Nothing is received on a [`MuteLink`], and a run over it, [`play_mute`], rejects a query only at
 //!   its first reply, since the link has ended: `DuelCloses`.
 //! - `Honest` refuses a message out of turn once, and has ended then.
+//! - A `Skewed` helper hears and answers as an `Honest` one that hears one update more before the end
+//!   of the stream, where that may come.
 //! - A `Liar` appends the reply of the first of its lies that is about the point of the talk, and
 //!   has ended where there is none.
-//!
-//! The behaviour of `Skewed` is tested alone.
 //!
 //! # The definitions to read
 //!
