@@ -16,11 +16,11 @@
 //!   and drops the helper. With an honest helper its talk is an honest one: `IsHonestTalk`. With a
 //!   good seed, a legal stream and ports that do not fail it is then accepted with the stream's own
 //!   answers, unless memory runs out at one of the two ends: `DuelAccepts`.
-//! - Nothing is received on a [`MuteLink`], and a run over it, [`play_mute`], rejects a query only at
-//!   its first reply, since the link has ended: `DuelCloses`.
+//! - Nothing is received on a [`MuteLink`], and a run over it, [`play_mute`], rejects a query only
+//!   at its first reply, since the link has ended: `DuelCloses`.
 //! - `Honest` refuses a message out of turn once, and has ended then.
-//! - A `Skewed` helper hears and answers as an `Honest` one that hears one update more before the end
-//!   of the stream, where that may come.
+//! - A `Skewed` helper hears and answers as an `Honest` one that hears one update more before the
+//!   end of the stream, where that may come.
 //! - A `Liar` appends the reply of the first of its lies that is about the point of the talk, and
 //!   has ended where there is none.
 //!
