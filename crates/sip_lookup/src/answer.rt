@@ -74,11 +74,7 @@ fn put_answer(gathered: &mut ArrayVec<u8, ROOM>, answer: LookAnswer)
 /// # Errors
 ///
 /// Those of the sink, which a front of the line has then reached that is shorter than it.
-pub(crate) fn write_look<K: Sink>(
-    sink: &mut K,
-    lookup: Lookup,
-    answer: LookAnswer,
-) -> Result<(), PortStop>
+pub fn write_look<K: Sink>(sink: &mut K, lookup: Lookup, answer: LookAnswer) -> Result<(), PortStop>
     ensures talk { SendsWhole (K.talk sink.old) (K.talk sink.new) result
         (look_line lookup (looked_of answer)) }
     ensures cause { HasCause K.faults K.wants K.is_sure sink.old sink.new result }

@@ -42,7 +42,7 @@ pub mod served_examples;
 mod serving;
 mod task;
 
-pub use answer::LookAnswer;
+pub use answer::{LookAnswer, write_look};
 pub use look_asking::ask_look;
 pub use lookup::Lookup;
 pub use running::look_stream;

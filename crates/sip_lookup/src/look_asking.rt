@@ -175,7 +175,7 @@ pub fn ask_look<L: Link, C: Sink>(
         → RootStandsFor m61_modulus root.now.seat root.now.value (vector depth stream First)
         → Asks (looking version depth stream) (lookup, root.now.seat) (L.talk link.old)
         (L.talk link.new) (λ given answer. looked_of given ≡ answer) result }
-    ensures room { most_entries ≤ vec_capacity entries.new }
+    ensures room { vec_capacity entries.old ≤ vec_capacity entries.new }
     ensures keeps { AskClause version
         (sink L.talk L.faults L.wants link.old) (sink L.talk L.faults L.wants link.new)
         (sink C.talk C.faults C.wants keep.old) (sink C.talk C.faults C.wants keep.new)

@@ -119,11 +119,14 @@ abbrev pub or_else : Option Status → Option Status → Option Status
 or_else (Some status) later = Some status
 or_else None later = later
 
--- that of the first question that has one, where they are counted from this number on
+-- that of the first that has one, where they are counted from this number on
+abbrev pub first_by : {Q : Type 0} → (ℕ → Q → Option Status) → ℕ → List Q → Option Status
+first_by refuses number [] = None
+first_by refuses number (q ∷ more) =
+    or_else (refuses number q) (first_by refuses (suc number) more)
+
 abbrev pub first_refusal : List Update → ℕ → List Question → Option Status
-first_refusal stream number [] = None
-first_refusal stream number (q ∷ more) =
-    or_else (refusal_of stream number q) (first_refusal stream (suc number) more)
+first_refusal stream = first_by (refusal_of stream)
 
 -- ---- the questions of a run
 

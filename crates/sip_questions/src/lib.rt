@@ -4,22 +4,36 @@
 //! own. So nothing is defined here once more: the manner of questions goes by the manners of the
 //! three kinds, and the turns of a helper by those of three helpers.
 //!
-//! So far these are definitions, worked out on examples: no command asks so yet.
+//! [`QuestionAsker`] asks the questions of a run over a link to where its stream is kept, each at a
+//! [`QuestionSeat`]: the running numbers of the stream that its kind wants, which
+//! `sip_verifier::Running` keeps. `sip_verifier::conclude_run` drives it, and writes the lines; what
+//! such a run promises is [`laws`]. [`ask_question`] asks one question by itself.
+//!
+//! So far no command asks so, and of the helper there are the turns alone, worked out on examples.
 //!
 //! # The definitions to read
 //!
 //! | file of `specs/` | what it defines |
 //! |---|---|
 //! | `Questions` | how questions are asked and judged, and which run is refused before the first |
+//! | `Sittings` | the seats of questions, and what is seen of them while they are asked |
 //! | `Counting` | at how many blocks of challenges a wrong answer can be accepted |
 //! | `Honest` | what an honest helper replies, and which questions it can answer |
+//! | `Promises` | what a run of questions promises, and which runs these are |
 //! | `Serving` | the turns of a helper of questions, and what it does on a link |
 //! | `Examples` | what the examples work out |
 //!
 //! [`examples`] works out turns and refusals.
 #![tactic(auto)]
 
+mod asker;
+mod asking;
 pub mod examples;
+pub mod laws;
 mod question;
+mod seat;
 
+pub use asker::{QuestionAsker, QuestionGiven};
+pub use asking::ask_question;
 pub use question::Question;
+pub use seat::QuestionSeat;

@@ -1,5 +1,8 @@
 //! What can be asked of a stream.
 
+ghost use Rattle.std.specs.Prelude.{◌≡◌};
+ghost use Rattle.sip_questions.specs.Sittings.{query_like};
+
 use sip_lookup::Lookup;
 use sip_moments::Moment;
 use sip_vector::Query;
@@ -17,7 +20,6 @@ pub enum Question {
 
 /// The lookup of item 0.
 impl Default for Question {
-    ghost use Rattle.std.specs.Prelude.{◌≡◌};
     ghost use Rattle.sip_lookup.specs.declared.lookup.Lookup.TheVariants as lookups;
     ghost use Rattle.sip_questions.specs.declared.question.Question.TheVariants as questions;
 
@@ -25,5 +27,23 @@ impl Default for Question {
 
     fn default() -> Question {
         Question::Lookup(Lookup::Index(0))
+    }
+}
+
+impl Question {
+    /// The query whose running numbers serve the question too: that of an entry for a lookup, and
+    /// of the second moment of its side for a moment. So [`Running::begin`](sip_verifier::Running)
+    /// of it begins what is kept of a stream for the question.
+    pub fn query_like(&self) -> Query
+        ensures { result ≡ query_like self.now }
+    {
+        match self {
+            Question::Query(query) => *query,
+            Question::Lookup(lookup) => {
+                let item = lookup.item();
+                Query::Sub { lo: item, hi: item }
+            }
+            Question::Moment(moment) => Query::F2 { side: moment.side },
+        }
     }
 }

@@ -31,7 +31,7 @@ pub invariant_of-self-inside : goal.invariant_of-self-inside
 invariant_of-self-inside g c =
     let less = still_left c.self.inside.version c.self.inside.depth c.self.inside.lookups.items c.self.inside.seats c.self.inside.asked c.self.inside.is_spent c.args.self.now c.self.view_is c.self.inside.each c.requires.left in
     let within : c.self.inside.asked + 1 ≤ length c.self.inside.lookups.items = omega (arith, less) in
-    (c.self.inside.levels, (c.self.inside.each, (c.self.inside.rooted, (within, (c.self.inside.items, (c.self.inside.shallow, (c.ask_look-asked.ensures.room, tt)))))))
+    (c.self.inside.levels, (c.self.inside.each, (c.self.inside.rooted, (within, (c.self.inside.items, (c.self.inside.shallow, (omega (arith, c.self.inside.room, c.ask_look-asked.ensures.room), tt)))))))
 
 pub returns-clause-asks : goal.returns-clause-asks
 returns-clause-asks g c =

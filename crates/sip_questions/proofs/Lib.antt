@@ -1,0 +1,6 @@
+mod ByKind
+mod EnoughRoom
+mod QuestionsLeft
+mod Refusals
+mod Refused
+mod PromisedRuns

@@ -1,0 +1,2 @@
+-- Proofs of the laws that a trait asks for.
+pub mod Waiting
