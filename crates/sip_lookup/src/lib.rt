@@ -27,7 +27,9 @@
 //! promises are those of any run, said of the manner in which lookups are asked.
 //!
 //! [`serve_look`] is the helper's end of a talk of lookups: it takes turns, each of them a message
-//! that may come and then its reply, and its status says where it stopped (`ServesLooks`).
+//! that may come and then its reply, and its status says where it stopped (`ServesLooks`). A helper
+//! that answers lookups among other questions reads an Ask by [`lookup_of`], and replies by
+//! [`honest_place`] and [`put_place`].
 #![tactic(auto)]
 
 mod answer;
@@ -46,5 +48,5 @@ pub use answer::{LookAnswer, write_look};
 pub use look_asking::ask_look;
 pub use lookup::Lookup;
 pub use running::look_stream;
-pub use serving::serve_look;
+pub use serving::{honest_place, lookup_of, put_place, serve_look};
 pub use task::LookTask;

@@ -61,7 +61,7 @@ impl Model for LookCore {
 }
 
 /// The lookup of a code at an item; `None` where there is no such code.
-fn lookup_of(code: u8, item: u64) -> Option<Lookup>
+pub fn lookup_of(code: u8, item: u64) -> Option<Lookup>
     ensures { result ≡ lookup_of code item }
 {
     match code {
@@ -73,7 +73,7 @@ fn lookup_of(code: u8, item: u64) -> Option<Lookup>
 }
 
 /// The place of a lookup's answer over the vector: O(log m) for m entries that are not 0.
-fn honest_place(vector: &Vector, lookup: Lookup) -> Option<u64>
+pub fn honest_place(vector: &Vector, lookup: Lookup) -> Option<u64>
     requires { CanLook vector.now.depth lookup }
     ensures { result ≡ honest_found vector.now.numbers lookup }
 {
@@ -88,9 +88,13 @@ fn honest_place(vector: &Vector, lookup: Lookup) -> Option<u64>
 }
 
 /// Says the place of a lookup's answer, or that there is none.
+///
+/// # Errors
+///
+/// Those of the sink, which a front of the frame has then reached that is shorter than it.
 #[inline(never)]
 #[tactic(auto, using(crate::proofs::FoundFits::some_fits, crate::proofs::FoundFits::none_fits))]
-fn put_place<K: Sink>(version: Version, place: Option<u64>, out: &mut K) -> Result<(), PortStop>
+pub fn put_place<K: Sink>(version: Version, place: Option<u64>, out: &mut K) -> Result<(), PortStop>
     ensures talk { SendsWhole (K.talk out.old) (K.talk out.new) result
         (spelling version (found_message place)) }
     ensures cause { HasCause K.faults K.wants K.is_sure out.old out.new result }
