@@ -31,6 +31,7 @@ use Rattle.sip_lookup.specs.Sittings.{looked_of}
 use Rattle.sip_moments.specs.declared.moment.Moment.{Moment}
 use Rattle.sip_moments.specs.AcceptsMoment.{power_at}
 use Rattle.sip_moments.specs.Manner.{numbers_of}
+use Rattle.sip_questions.specs.declared.asker.QuestionGiven.{QuestionGiven}
 use Rattle.sip_questions.specs.declared.asker.QuestionGiven.TheVariants as givens
 use Rattle.sip_questions.specs.declared.question.Question.{Question}
 use Rattle.sip_questions.specs.declared.question.Question.TheVariants as questions
@@ -115,7 +116,8 @@ module _ (version : Version) (depth : ℕ) (stream : List Update) (block : List 
       states = refl;
     }
     query_came (Ok (verdicts.Rejected round reason)) x =
-        stopped_as own (asking version depth stream) query (questions.Query query) block to_query (query_like version depth stream block query) old new {G = ℤ} (λ given answer. given ≡ given) _ (Rejected round reason) x
+        stopped_as own (asking version depth stream) query (questions.Query query) block to_query (query_like version depth stream block query) old new {G = ℤ} {H = QuestionGiven} (λ given answer. given ≡ given)
+        (λ given answer. stated entries given ≡ (questions.Query query, answer)) (Rejected round reason) x
     query_came (Err faults.PeerFault) x =
         interrupted_as own (asking version depth stream) query (questions.Query query) block to_query (query_like version depth stream block query) old new x
     query_came (Err faults.KeepFault) x =

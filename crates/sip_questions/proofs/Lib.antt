@@ -1,6 +1,9 @@
 mod ByKind
 mod EnoughRoom
+mod NextAsked
 mod QuestionsLeft
 mod Refusals
 mod Refused
 mod PromisedRuns
+mod SeatAsks
+mod Starting

@@ -87,12 +87,11 @@ nodes_at (seats.Moment moment point) = 0
 
 -- why it may not be asked, by the numbers that it keeps and by the weights of the stream's sides
 abbrev pub refusal_at : (Side → ℕ) → ℕ → QuestionSeat → Option Status
-refusal_at weight number (seats.Query seat) =
-    if is_wide_seat seat.query seat.running then Some (statuses.TooWide number) else None
-refusal_at weight number (seats.Lookup lookup root) = None
-refusal_at weight number (seats.Moment moment point) =
-    if is_too_high (weight moment.side) moment.degree then Some (statuses.TooHigh number)
-    else None
+refusal_at weight n (seats.Query seat) =
+    if is_wide_seat seat.query seat.running then Some (statuses.TooWide n) else None
+refusal_at weight n (seats.Lookup lookup root) = None
+refusal_at weight n (seats.Moment moment point) =
+    if is_too_high (weight moment.side) moment.degree then Some (statuses.TooHigh n) else None
 
 -- ---- all of them
 

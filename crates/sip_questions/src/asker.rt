@@ -2,6 +2,7 @@
 
 ghost use Rattle.std.specs.Prelude.{◌≡◌, ◌≤◌, ℕ, All, IsSomeAnd, length};
 ghost use Rattle.std.specs.Prelude.{vec_capacity};
+ghost use Rattle.std.proofs.Props.{props};
 ghost use Rattle.sip_wire.specs.declared.version.Version.{Version as AnyVersion};
 ghost use Rattle.sip_wire.specs.Table.{most_queries};
 ghost use Rattle.sip_wire.specs.Versions.{deepest};
@@ -51,9 +52,10 @@ pub struct QuestionAsker {
     is_spent: bool,
     ghost within: { asked ≤ length seats.items },
     ghost shallow: { depth ≤ deepest version },
-    ghost can: { All (CanAsk version depth) seats.items },
+    ghost can: { ∥ All (CanAsk version depth) seats.items ∥₁ },
     ghost places: { All (λ s. places_at s ≤ vec_capacity entries) seats.items },
-    ghost nodes: { IsSomeAnd space (λ lent. All (λ s. nodes_at s ≤ lent.nodes) seats.items) },
+    ghost nodes: { IsSomeAnd space (λ lent. All (λ s. nodes_at s ≤ lent.nodes) seats.items) }
+        by { Prim.hlevel props },
 }
 
 impl Model for QuestionAsker {
