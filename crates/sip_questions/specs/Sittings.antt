@@ -1,6 +1,7 @@
 -- What is seen of the questions of a run while they are asked.
-use Rattle.std.specs.Prelude.{◌≡◌, ℕ, IsTrue, Bool, false, All, List, [], map}
+use Rattle.std.specs.Prelude.{◌≡◌, ◌≤◌, ℕ, IsSomeAnd, IsTrue, Bool, false, All, List, [], map}
 use Rattle.std.specs.Prelude.{length, Option, Some, None, Result, Ok, Err, if◌then◌else◌}
+use Rattle.sip_heavy.specs.Checking.{Space}
 use Rattle.sip_subvec.specs.Replies.{most_entries}
 use Rattle.sip_vector.specs.declared.query.Query.{Query}
 use Rattle.sip_vector.specs.declared.query.Query.TheVariants.{Sub, F2}
@@ -84,6 +85,10 @@ abbrev pub nodes_at : QuestionSeat → ℕ
 nodes_at (seats.Query seat) = most_nodes seat.query seat.running
 nodes_at (seats.Lookup lookup root) = 0
 nodes_at (seats.Moment moment point) = 0
+
+-- there is room for the nodes of each of these
+abbrev pub LendsEnough : Option Space → List QuestionSeat → Type 0
+LendsEnough space all = IsSomeAnd space (λ lent. All (λ s. nodes_at s ≤ lent.nodes) all)
 
 -- why it may not be asked, by the numbers that it keeps and by the weights of the stream's sides
 abbrev pub refusal_at : (Side → ℕ) → ℕ → QuestionSeat → Option Status

@@ -1,6 +1,6 @@
 //! The questions of a run, asked one after another.
 
-ghost use Rattle.std.specs.Prelude.{◌≡◌, ◌≤◌, ℕ, All, IsSomeAnd, length};
+ghost use Rattle.std.specs.Prelude.{◌≡◌, ◌≤◌, ℕ, All, length};
 ghost use Rattle.std.specs.Prelude.{vec_capacity};
 ghost use Rattle.std.proofs.Props.{props};
 ghost use Rattle.sip_wire.specs.declared.version.Version.{Version as AnyVersion};
@@ -8,7 +8,8 @@ ghost use Rattle.sip_wire.specs.Table.{most_queries};
 ghost use Rattle.sip_wire.specs.Versions.{deepest};
 ghost use Rattle.sip_verifier.specs.Weights.{weight_in};
 ghost use Rattle.sip_questions.specs.Questions.{first_by};
-ghost use Rattle.sip_questions.specs.Sittings.{CanAsk, Starts, nodes_at, places_at, refusal_at};
+ghost use Rattle.sip_questions.specs.Sittings.{CanAsk, LendsEnough, Starts, nodes_at, places_at};
+ghost use Rattle.sip_questions.specs.Sittings.{refusal_at};
 
 use crate::asking::ask_question;
 use crate::seat::QuestionSeat;
@@ -54,8 +55,7 @@ pub struct QuestionAsker {
     ghost shallow: { depth ≤ deepest version },
     ghost can: { ∥ All (CanAsk version depth) seats.items ∥₁ },
     ghost places: { All (λ s. places_at s ≤ vec_capacity entries) seats.items },
-    ghost nodes: { IsSomeAnd space (λ lent. All (λ s. nodes_at s ≤ lent.nodes) seats.items) }
-        by { Prim.hlevel props },
+    ghost nodes: { LendsEnough space seats.items } by { Prim.hlevel props },
 }
 
 impl Model for QuestionAsker {

@@ -6,8 +6,8 @@
 //!
 //! [`QuestionAsker`] asks the questions of a run over a link to where its stream is kept, each at a
 //! [`QuestionSeat`]: the running numbers of the stream that its kind wants, which
-//! `sip_verifier::Running` keeps. `sip_verifier::conclude_run` drives it, and writes the lines; what
-//! such a run promises is [`laws`]. [`ask_question`] asks one question by itself.
+//! `sip_verifier::Running` keeps. `sip_verifier::conclude_run` drives it, and writes the lines;
+//! what such a run promises is [`laws`]. [`ask_question`] asks one question by itself.
 //!
 //! So far no command asks so, and of the helper there are the turns alone, worked out on examples.
 //!

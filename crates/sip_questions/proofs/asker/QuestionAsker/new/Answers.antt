@@ -11,19 +11,18 @@ use Rattle.sip_questions.proofs.asker.QuestionAsker.new.Goals as goal
 pub first_refusal-requires-clause-can : goal.first_refusal-requires-clause-can
 first_refusal-requires-clause-can c =
     let same : c.deref.result.now ≡ c.args.seats.items = search rules in
-    (c.args.version, (c.args.depth, subst (All (CanAsk c.args.version c.args.depth)) (sym same) c.requires.can))
+    (c.args.version, c.args.depth, subst (All (CanAsk c.args.version c.args.depth)) (sym same) c.requires.can)
 
 pub rooms-places-requires : goal.rooms-places-requires
 rooms-places-requires c =
     let same : c.deref-2.result.now ≡ c.args.seats.items = search rules in
-    (c.args.version, (c.args.depth, subst (All (CanAsk c.args.version c.args.depth)) (sym same) c.requires.can))
+    (c.args.version, c.args.depth, subst (All (CanAsk c.args.version c.args.depth)) (sym same) c.requires.can)
 
 pub invariant_of-result : goal.invariant_of-result
 invariant_of-result c =
     let same : c.deref-2.result.now ≡ c.args.seats.items = search rules in
     let places = subst (All (λ (s : QuestionSeat). places_at s ≤ c.rooms-places.result.0)) same c.rooms-places.ensures.places in
-    let nodes = subst (All (λ (s : QuestionSeat). nodes_at s ≤ c.rooms-places.result.1)) same c.rooms-places.ensures.nodes in
-    (
+    let nodes = subst (All (λ (s : QuestionSeat). nodes_at s ≤ c.rooms-places.result.1)) same c.rooms-places.ensures.nodes in (
       omega arith,
       (
         c.requires.shallow,

@@ -11,8 +11,7 @@ use Rattle.sip_questions.proofs.asker.QuestionAskerAsker.ask_next.Goals as goal
 pub invariant_of-self-inside : goal.invariant_of-self-inside
 invariant_of-self-inside g c =
     let less = next_left c.self.inside.version c.self.inside.depth c.self.inside.seats.items c.self.inside.asked c.self.inside.entries.items c.self.inside.is_spent c.args.self.now c.self.view_is c.requires.left in
-    let within : c.self.inside.asked + 1 ≤ length c.self.inside.seats.items = omega (arith, less) in
-    (
+    let within : c.self.inside.asked + 1 ≤ length c.self.inside.seats.items = omega (arith, less) in (
       within,
       (
         c.self.inside.shallow,
