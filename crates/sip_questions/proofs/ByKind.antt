@@ -20,7 +20,7 @@ use Rattle.sip_verifier.specs.declared.session.Verdict.TheVariants as verdicts
 use Rattle.sip_verifier.specs.AskClause.{AskClause, came_of}
 use Rattle.sip_verifier.specs.Asking as sessions
 use Rattle.sip_verifier.specs.runs.Askers.{Asks}
-use Rattle.sip_verifier.specs.runs.Asking.{IsAnswered, IsInterrupted, IsRejected, IsUnrecorded, question_of}
+use Rattle.sip_verifier.specs.runs.Asking.{IsAnswered, IsInterrupted, IsUnrecorded, question_of}
 use Rattle.sip_verifier.specs.runs.Manners.{Manner}
 use Rattle.sip_verifier.specs.Snapshots.{SinkState}
 use Rattle.sip_verifier.proofs.KeptAsks.{given_keeps, stop_keeps}

@@ -1,5 +1,5 @@
 -- A run of questions that keeps to the clauses of verdicts and of causes keeps to those of counts and of completeness: each question does what one of its kind does.
-use Rattle.std.proofs.Common.{IsTrue, ◌≡◌, ◌≢◌, ℕ, ◌≤◌, ◌^◌, Bool, true, false, List, [], ◌∷◌, ◌++◌, Some, None, All, length, refl, sym, ap, subst, ◌∙◌, arith}
+use Rattle.std.proofs.Common.{IsTrue, ◌≡◌, ◌≢◌, ℕ, Bool, true, false, List, [], ◌∷◌, ◌++◌, None, All, refl, sym, ap, ◌∙◌, arith}
 use Rattle.std.proofs.lemmas.List.Elements.{All-cons, All-head, All-nil, All-tail}
 use Rattle.sip_ports.specs.Ports.{heard}
 use Rattle.sip_vector.specs.declared.update.Update.{Update}
@@ -19,7 +19,6 @@ use Rattle.sip_verifier.specs.declared.status.Status.TheVariants as statuses
 use Rattle.sip_verifier.specs.CompletenessClause.{HasFewEntries}
 use Rattle.sip_verifier.specs.Exchanges.{Exchange}
 use Rattle.sip_verifier.specs.Kinds.{kind_row}
-use Rattle.sip_verifier.specs.runs.CompletenessClause.{CompletenessClause}
 use Rattle.sip_verifier.specs.runs.Concluding.{Ended}
 use Rattle.sip_verifier.specs.runs.CountClause.{CountClause}
 use Rattle.sip_verifier.specs.runs.Runs.{Run, updates}

@@ -6,7 +6,7 @@ use Rattle.std.proofs.lemmas.List.Elements.{All-drop, All-head}
 use Rattle.sip_vector.specs.declared.update.Entry.{Entry}
 use Rattle.sip_vector.specs.declared.update.Update.{Update}
 use Rattle.sip_wire.specs.declared.version.Version.{Version}
-use Rattle.sip_verifier.specs.runs.Askers.{IsFirst, Remaining, behind}
+use Rattle.sip_verifier.specs.runs.Askers.{IsFirst, behind}
 use Rattle.sip_questions.specs.declared.question.Question.{Question}
 use Rattle.sip_questions.specs.declared.seat.QuestionSeat.{QuestionSeat}
 use Rattle.sip_questions.specs.Sittings.{QuestionSitting, StandsAt, StandsOn, ask_at, remaining_of}

@@ -1,5 +1,5 @@
 -- The first question that may not be asked: by those before it, and by the stream.
-use Rattle.std.proofs.Common.{◌≡◌, ℕ, zero, suc, ◌+◌, ◌<◌, List, [], ◌∷◌, length, take, get_or, map, Option, Some, None, refl, sym, ap, subst, ◌∙◌, arith}
+use Rattle.std.proofs.Common.{◌≡◌, ℕ, zero, suc, ◌+◌, ◌<◌, List, [], ◌∷◌, length, take, get_or, Option, Some, None, refl, subst, arith}
 use Rattle.sip_verifier.specs.declared.status.Status.{Status}
 use Rattle.sip_questions.specs.Questions.{first_by, or_else}
 

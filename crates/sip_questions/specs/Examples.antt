@@ -2,13 +2,9 @@
 use Rattle.std.specs.Prelude.{false, List, [], ◌∷◌}
 use Rattle.sip_vector.specs.Examples.{stream}
 use Rattle.sip_vector.specs.declared.query.Query.TheVariants as queries
-use Rattle.sip_vector.specs.declared.update.Side.TheVariants.{First, Second}
 use Rattle.sip_wire.specs.declared.message.Message.{Message}
 use Rattle.sip_wire.specs.declared.message.Message.TheVariants as messages
 use Rattle.sip_helper.specs.Streams.{stream_heard}
-use Rattle.sip_lookup.specs.declared.lookup.Lookup.TheVariants as lookups
-use Rattle.sip_questions.specs.declared.question.Question.{Question}
-use Rattle.sip_questions.specs.declared.question.Question.TheVariants as questions
 use Rattle.sip_questions.specs.Serving.{QuestionHelper, after_answer, fresh_questions, step}
 
 abbrev pub behind_stream : QuestionHelper

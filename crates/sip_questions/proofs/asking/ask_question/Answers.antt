@@ -10,7 +10,6 @@ use Rattle.sip_lookup.specs.declared.answer.LookAnswer.{LookAnswer}
 use Rattle.sip_questions.specs.declared.asker.QuestionGiven.{QuestionGiven}
 use Rattle.sip_questions.specs.declared.asker.QuestionGiven.TheVariants as givens
 use Rattle.sip_questions.specs.declared.question.Question.TheVariants as questions
-use Rattle.sip_questions.specs.declared.seat.QuestionSeat.{QuestionSeat}
 use Rattle.sip_questions.specs.declared.seat.QuestionSeat.TheVariants as seats
 use Rattle.sip_questions.specs.Questions.{Answered, asking, by_lookup, by_moment, to_lookup, to_moment}
 use Rattle.sip_questions.specs.Sittings.{StandsAt, ask_at, query_given, question_at, stated}

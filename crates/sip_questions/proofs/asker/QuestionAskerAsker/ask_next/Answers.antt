@@ -1,5 +1,5 @@
 -- What came of the next question came of the first that is left.
-use Rattle.std.proofs.Common.{◌≡◌, ◌<◌, ◌+◌, ◌≤◌, Bool, get_or, length, ap, subst, ◌∙◌, arith, rules}
+use Rattle.std.proofs.Common.{◌≡◌, ◌+◌, ◌≤◌, Bool, get_or, length, ap, subst, ◌∙◌, arith, rules}
 use Rattle.std.specs.Prelude.{vec_capacity}
 use Rattle.sip_verifier.specs.runs.Askers.{behind}
 use Rattle.sip_questions.specs.declared.seat.QuestionSeat.{QuestionSeat}
