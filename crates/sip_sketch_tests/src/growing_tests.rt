@@ -12,17 +12,6 @@ const BEGUN: [u8; 32] = [
     0x24, 0x61, 0xa5, 0xbb, 0xf3, 0xda, 0xac, 0x5a, 0xb6, 0x01, 0x51, 0x71, 0x28, 0x92, 0xe9, 0xe5,
 ];
 
-// That of the sketch of the three records, whose first seat is used.
-const USED: [u8; 32] = [
-    0x5b, 0x71, 0x3e, 0xc8, 0x0a, 0x21, 0xa3, 0xcb, 0xb6, 0xe9, 0xfa, 0xfa, 0xb4, 0x61, 0x9c, 0x3a,
-    0x7b, 0xad, 0xd4, 0x22, 0xda, 0x58, 0x87, 0xd0, 0x5a, 0xb4, 0x3e, 0x7c, 0xfd, 0xcc, 0xf6, 0x4f,
-];
-
-// The fingerprint of those and a fourth record, 2 at item 1, and the extension of their vector.
-const FOUR: [u8; 8] = [0xda, 0x3a, 0x76, 0xc0, 0xed, 0x54, 0x64, 0x82];
-
-const RAISED: [u8; 8] = [0x09, 0x45, 0x99, 0xdd, 0xcc, 0x3c, 0x66, 0xcd];
-
 const KINDS: [SeatKind; 2] = [SeatKind::Entries, SeatKind::Sums(Side::First)];
 
 // Its file: no weight, no record, no fingerprint, and no number in a seat.
@@ -78,34 +67,6 @@ fn three_records_come_to_each_seat(rt: HostRuntime) {
     let mut bytes = Vec::new(rt.alloc());
     sketch.write(&mut bytes).expect(&rt, "memory");
     assert!(rt; bytes.as_slice() == WATCHED.as_slice(), "its bytes");
-}
-
-// The first seat was used by a question: its number stays, and the other one's is raised.
-#[test]
-fn a_used_seat_is_left_as_it_is(rt: HostRuntime) {
-    let mut bytes = WATCHED;
-    bytes[53] = 1;
-    for at in 0..32 {
-        bytes[120 + at] = USED[at];
-    }
-    let mut sketch = Sketch::read(rt.alloc(), &bytes).expect(&rt, "a sketch");
-    let two = [Update {
-        side: Side::First,
-        item: 1,
-        delta: 2,
-    }];
-    let may_come = sketch.takes(&two);
-    assert!(rt; may_come, "a legal record");
-    sketch.update_all(&two);
-    bytes[25] = 11;
-    bytes[41] = 4;
-    for at in 0..8 {
-        bytes[43 + at] = FOUR[at];
-        bytes[104 + at] = RAISED[at];
-    }
-    let mut written = Vec::new(rt.alloc());
-    sketch.write(&mut written).expect(&rt, "memory");
-    assert!(rt; written[..120] == bytes[..120], "its fields");
 }
 
 // The total of side 0 is 9 of a weight of 9, and 8 of a weight of 10 once a delta was below 0. Its
