@@ -4,6 +4,7 @@ use crate::page_tests::words_between;
 use sip_cli::{Noted, SeedLook, Trouble, Unopened, finish, hint};
 use sip_command_tests::case::Case;
 use sip_ports::MemorySink;
+use sip_vector::Negatives;
 use sip_verifier::{Port, Status};
 use std::alloc::Global;
 use std::process::Abort;
@@ -16,6 +17,12 @@ const SECRET: SeedLook = SeedLook {
     is_shared: false,
 };
 
+// No number of the stream was below 0.
+const NONE: Negatives = Negatives {
+    first: false,
+    second: false,
+};
+
 // All files opened.
 pub const NOTHING: Noted = Noted {
     first: None,
@@ -24,6 +31,7 @@ pub const NOTHING: Noted = Noted {
     to: None,
     keep: None,
     seed: SECRET,
+    negatives: NONE,
 };
 
 // Words, what was noted of their files, a status, and what the advice names.
