@@ -113,8 +113,8 @@ fn seed_look(rt: &HostRuntime, words: &Words, opening: Opening) -> Option<SeedLo
     Some(SeedLook::of(&front[..count], mode))
 }
 
-/// A file to write, which is made or emptied, or why there is none, which is noted. None is that the
-/// words do not name.
+/// A file to write, which is made or emptied, or why there is none, which is noted. None is that
+/// the words do not name.
 fn emptied(
     rt: &HostRuntime,
     words: &Words,
@@ -384,7 +384,8 @@ fn obey_opened(
 /// The page's part about a command that may be a call for it, where nothing has the name of its
 /// file.
 fn page_behind(rt: &HostRuntime, words: &Words, command: &Command) -> Option<&'static str>
-    ensures { IsSome result → (text : List ℕ) × AsksPart words.now text }
+    requires { Spells words.now command.now }
+    ensures { IfSome result (λ text. AsksPart words.now text.now) }
 {
     let text = page_without_file(words)?;
     let name = ports(words, command).second.name(words)?;

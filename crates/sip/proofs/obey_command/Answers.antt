@@ -6,7 +6,7 @@ use Rattle.sip.proofs.obey_command.Goals as goal
 
 pub returns-in-Some-clause-spelled : goal.returns-in-Some-clause-spelled
 returns-in-Some-clause-spelled c = λ none.
-    let (text, asks) = c.in-Some.ensures (cc) in absurd (none text asks)
+    absurd (none _ c.in-Some.ensures)
 
 pub returns-in-Some-clause-usage : goal.returns-in-Some-clause-usage
 returns-in-Some-clause-usage c = λ word e.

@@ -4,7 +4,7 @@ use Rattle.sip.proofs.obey_keeping.Goals as goal
 
 pub returns-in-Some : goal.returns-in-Some
 returns-in-Some g c =
-    let (task, name, is, played) = c.in-Some.ensures.played in
+    let (task, name, is, played, negatives) = c.in-Some.ensures.played in
     subst (λ k. Ends k c.in-Some.status) (sym is) played.keeps.listed
 
 pub returns : goal.returns
