@@ -441,6 +441,19 @@ fn done(rt: &HostRuntime, words: &Words, noted: &mut Noted, tells: bool) -> Stat
     }
 }
 
+/// Writes what went wrong and what can be done about it. It is a call of its own: the lines are not
+/// on the stack while a command is done.
+#[inline(never)]
+fn ended(rt: &HostRuntime, words: &Words, noted: &Noted, status: &Status) -> Ending
+    ensures { result.code ≡ code_of status.now }
+{
+    let mut errors = StderrSink::new(rt.stderr());
+    finish(status, &mut errors)
+        .advise(words, noted, status, &mut errors)
+        .warn(noted, &mut errors)
+        .caution(noted, status, &mut errors)
+}
+
 /// Does what the words say, and writes what went wrong and what can be done about it. The code is
 /// that of a status.
 fn ending(rt: &HostRuntime) -> Ending
@@ -451,11 +464,7 @@ fn ending(rt: &HostRuntime) -> Ending
             let (words, tells) = given.behind_progress();
             let mut noted = Noted::default();
             let status = done(rt, &words, &mut noted, tells);
-            let mut errors = StderrSink::new(rt.stderr());
-            finish(&status, &mut errors)
-                .advise(&words, &noted, &status, &mut errors)
-                .warn(&noted, &mut errors)
-                .caution(&noted, &status, &mut errors)
+            ended(rt, &words, &noted, &status)
         }
         Err(error) => {
             let status = status_without_words(&error);
