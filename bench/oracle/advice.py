@@ -194,4 +194,4 @@ def of_credits(verb, said, files, outcome):
     if not sides:
         return None
     which = "both sides" if len(sides) == 2 else f"side {sides[0]}"
-    return f"sip: hint: {which} had numbers below 0: ", "only if no entry of"
+    return f"sip: hint: {which} had numbers below 0: ", "only if no entry"
