@@ -47,6 +47,14 @@ stands_begun asked c nodes challenges places field taken begun room =
       room = room;
     }
 
+-- ---- a value and its fields
+
+-- the fields stand for what the value stands for
+pub stands_inside : (asked : HeavyAsked) (s : HeavyState) (inside now : Kept) (places : List Entry) → HeavyStands asked s now places → now.revealed ≡ now.level → inside ≡ now
+    → HeavyStands asked s inside places × (inside.revealed ≡ inside.level)
+stands_inside asked s inside now places stands at same =
+    (subst (λ k. HeavyStands asked s k places) (sym same) stands, subst (λ (k : Kept). k.revealed ≡ k.level) (sym same) at)
+
 -- ---- a challenge
 
 pub stands_revealed : (asked : HeavyAsked) (s : HeavyState) (c new : Kept) (places : List Entry) (r : ℕ) (stands : HeavyStands asked s c places) → Reveals (phase_of c) → new ≡ record c { revealed = c.revealed + 1 }

@@ -1,12 +1,12 @@
 -- Nodes that are given to a check one after another.
-use Rattle.std.proofs.Common.{◌≡◌, ℕ, Result, Ok, Err, IsErrAnd, List, [], ◌∷◌, ◌++◌, refl, sym, ap, subst, ◌∙◌}
+use Rattle.std.proofs.Common.{◌≡◌, ℕ, Result, Ok, Err, IsErrAnd, List, [], ◌∷◌, ◌++◌, refl, sym, ap, subst, ◌∙◌, arith}
 use Rattle.sip_vector.specs.Steps.{◌>>=◌}
 use Rattle.sip_wire.specs.declared.message.Node.{Node}
 use Rattle.sip_wire.specs.declared.message.Reason.{Reason}
 use Rattle.sip_replies.specs.Replies.{Fault}
 use Rattle.sip_replies.proofs.Passing.{same_ok}
 use Rattle.sip_heavy.specs.AcceptsHeavy.{HeavyQuestion, with_nodes, known_after}
-use Rattle.sip_heavy.specs.Checking.{Kept, GivenNodes, HasTaken, AnswersAs, Takes}
+use Rattle.sip_heavy.specs.Checking.{Advances, Kept, GivenNodes, HasTaken, AnswersAs, Takes}
 use Rattle.sip_heavy.proofs.Taking.{with_nodes-append}
 
 -- what passed
@@ -48,6 +48,15 @@ Takes-refused p old new xs more reason here q root challenges g taken =
     let says : with_nodes q old.level old.known g.received (xs ++ more) ≡ Err reason =
     with_nodes-append q old.level old.known g.received xs more ∙ ap (λ (r : Result (List Node) Reason). r >>= λ ys. with_nodes q old.level old.known ys more) first in
     subst (λ (r : Result (List Node) Reason). AnswersAs r (λ ys. HasTaken p q root challenges (record g { received = ys }) new) (Err reason)) (sym says) refl
+
+-- a check that ends no level and reveals nothing, twice
+pub Advances-again : (old mid new : Kept) → Advances old mid 0 0 → Advances mid new 0 0 → Advances old new 0 0
+Advances-again old mid new before after = record {
+  challenges = after.challenges ∙ before.challenges;
+  level = omega (arith, after.level, before.level);
+  revealed = omega (arith, after.revealed, before.revealed);
+  room = after.room ∙ before.room;
+}
 
 -- ---- the nodes of a frame, one after another
 

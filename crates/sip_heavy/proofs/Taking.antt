@@ -57,25 +57,6 @@ above_next (Some l) i j above = elim (leb_tells (suc i) j) [
     by_false true = refl
     by_false false = refl
 
--- whether a check is spent says nothing of what it has taken
-pub HasTaken-spent : (p : ℕ) (q : HeavyQuestion) (root : ℕ) (challenges : List ℕ) (g : GivenNodes) (c : Kept) (spent : Bool) → HasTaken p q root challenges g c → HasTaken p q root challenges g (record c { spent = spent })
-HasTaken-spent p q root challenges g c spent taken = record {
-  asked = taken.asked;
-  most = taken.most;
-  at_challenges = taken.at_challenges;
-  for_root = taken.for_root;
-  level = taken.level;
-  ended = taken.ended;
-  received = taken.received;
-  merges = taken.merges;
-  passes = taken.passes;
-  size = taken.size;
-  last = taken.last;
-  below = taken.below;
-  rises = taken.rises;
-  found = taken.found;
-}
-
 module _ (p : ℕ) (q : HeavyQuestion) (root : ℕ) (challenges : List ℕ) (g : GivenNodes) (c : Kept) (taken : HasTaken p q root challenges g c) (x : Node) where
   abbrev rest : List Node
   rest = drop c.passed c.known
@@ -109,8 +90,9 @@ module _ (p : ℕ) (q : HeavyQuestion) (root : ℕ) (challenges : List ℕ) (g :
       ∙ ap (λ b. needs (is_above c.last x.index && nat_lt x.index (2 ^ (length c.challenges - c.level)) && not (begins_with x.index (drop (c.passed + length less) c.known))) reasons.BadOrder >>= λ _. needs (nat_lt (length (c.nodes ++ less) + (length c.known - (c.passed + length less))) c.most) reasons.TooMany >>= λ _. needs b reasons.HeavySibling >>= λ _. Ok (g.received ++ x ∷ [])) light
       ∙ three_tests _ _ _ (g.received ++ x ∷ [])
 
-  HasTaken-node : node_test (passing c x.index) x ≡ Ok tt → HasTaken p q root challenges (record g { received = g.received ++ x ∷ [] }) (with_node (passing c x.index) x)
-  HasTaken-node is =
+  -- whether the check is spent says nothing of what it has taken
+  HasTaken-node : (spent : Bool) → node_test (passing c x.index) x ≡ Ok tt → HasTaken p q root challenges (record g { received = g.received ++ x ∷ [] }) (record (with_node (passing c x.index) x) { spent = spent })
+  HasTaken-node spent is =
       let order = order_passed _ _ _ is in
       let outer = and_parts (is_above c.last x.index && nat_lt x.index (2 ^ (length c.challenges - c.level))) (not (begins_with x.index (drop (c.passed + length less) c.known))) order in
       let above = (and_parts (is_above c.last x.index) (nat_lt x.index (2 ^ (length c.challenges - c.level))) outer.0).0 in
@@ -143,7 +125,7 @@ module _ (p : ℕ) (q : HeavyQuestion) (root : ℕ) (challenges : List ℕ) (g :
   node_answers (Ok done) new spent is same =
       subst (λ (r : Result (List Node) Reason). AnswersAs r (λ all. HasTaken p q root challenges (record g { received = all }) (record new { spent = spent })) (Ok done))
       (sym (node_says ∙ ap (λ (t : Result (Unit {0}) Reason). t >>= λ _. Ok (g.received ++ x ∷ [])) (sym is)))
-      (refl, HasTaken-spent p q root challenges (record g { received = g.received ++ x ∷ [] }) new spent (subst (HasTaken p q root challenges (record g { received = g.received ++ x ∷ [] })) (sym same) (HasTaken-node (sym is))))
+      (refl, subst (λ (k : Kept). HasTaken p q root challenges (record g { received = g.received ++ x ∷ [] }) (record k { spent = spent })) (sym same) (HasTaken-node spent (sym is)))
 
 -- the answer to the end of the check
 pub top_answers : (p : ℕ) (q : HeavyQuestion) (root : ℕ) (challenges : List ℕ) (g : GivenNodes) (c : Kept) → HasTaken p q root challenges g c

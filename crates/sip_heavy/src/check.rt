@@ -58,44 +58,17 @@ pub struct HeavyCheck<F: Field, const CAP: usize> {
 }
 
 impl<F: Field, const CAP: usize> Model for HeavyCheck<F, CAP> {
-    ghost use Rattle.std.specs.Prelude.{◌≡◌, ◌≤◌, length, vec_capacity};
+    ghost use Rattle.std.specs.Prelude.{◌≤◌, vec_capacity};
     ghost use Rattle.sip_heavy.specs.Checking.{Kept, IsSound};
 
     ghost Value = { Kept };
 
-    ghost view = { λ c. record {
-      challenges = c.root.seat;
-      hash = c.root.hash;
-      total = c.total;
-      at_least = c.at_least;
-      most = c.most;
-      level = c.level;
-      revealed = c.revealed;
-      passed = c.passed;
-      last = c.last;
-      known = c.known.items;
-      nodes = c.nodes.items;
-      found = c.found.items;
-      room = c.room;
-      spent = c.spent;
-    } };
+    ghost use Rattle.sip_heavy.specs.CheckFields.{kept_in};
 
-    ghost invariant = { λ c. IsSound (record {
-      challenges = c.root.seat;
-      hash = c.root.hash;
-      total = c.total;
-      at_least = c.at_least;
-      most = c.most;
-      level = c.level;
-      revealed = c.revealed;
-      passed = c.passed;
-      last = c.last;
-      known = c.known.items;
-      nodes = c.nodes.items;
-      found = c.found.items;
-      room = c.room;
-      spent = c.spent;
-    }) × (c.room ≤ vec_capacity c.known) × (c.room ≤ vec_capacity c.nodes)
+    ghost view = { kept_in };
+
+    ghost invariant = { λ c. IsSound (kept_in c)
+        × (c.room ≤ vec_capacity c.known) × (c.room ≤ vec_capacity c.nodes)
         × (c.room ≤ vec_capacity c.found) };
 }
 

@@ -4,7 +4,7 @@ use Rattle.sip_field.specs.Moduli.{m61_modulus}
 use Rattle.sip_wire.specs.declared.message.Leaf.{Leaf}
 use Rattle.sip_heavy.specs.AcceptsHeavy.{leaf_node}
 use Rattle.sip_heavy.specs.Protocol.{leaf_nodes}
-use Rattle.sip_heavy.proofs.Given.{front_more, front_refused, front_all}
+use Rattle.sip_heavy.proofs.Given.{Advances-again, front_more, front_refused, front_all}
 use Rattle.sip_heavy.proofs.heavy_asking.give_leaves.Goals as goal
 
 none : Leaf
@@ -23,17 +23,10 @@ unfolding none
 loop-row-preserved c =
     let rows = c.args.rows.now in
     let i = c.loop-row.row-index in
-    let old = c.loop-row.invariant.advances in
-    let step = c.leaf.ensures.advances in
     record {
       front = front_more m61_modulus c.args.check.now c.loop-row.check c.leaf.new.self (leaf_nodes rows) (leaf_nodes (drop i rows)) (leaf_node (get_or rows i none).item (get_or rows i none).count) (leaf_nodes (drop (i + 1) rows)) _
-          (ap leaf_nodes (drop_more rows i none c.loop-row-test.true)) c.loop-row.invariant.front c.leaf.ensures.answers c.in_ok-leaf.was (omega (arith, step.level));
-      advances = record {
-        challenges = step.challenges ∙ old.challenges;
-        level = omega (arith, step.level, old.level);
-        revealed = omega (arith, step.revealed, old.revealed);
-        room = step.room ∙ old.room;
-      };
+          (ap leaf_nodes (drop_more rows i none c.loop-row-test.true)) c.loop-row.invariant.front c.leaf.ensures.answers c.in_ok-leaf.was (omega (arith, c.leaf.ensures.advances.level));
+      advances = Advances-again c.args.check.now c.loop-row.check c.leaf.new.self c.loop-row.invariant.advances c.leaf.ensures.advances;
       unspent = rw c.in_ok-leaf.was at c.leaf.ensures.spent;
     }
 

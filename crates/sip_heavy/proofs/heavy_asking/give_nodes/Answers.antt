@@ -3,7 +3,7 @@ use Rattle.std.proofs.lemmas.List.{drop_more, drop_all}
 use Rattle.sip_field.specs.Moduli.{m61_modulus}
 use Rattle.sip_wire.specs.declared.message.Node.{Node}
 use Rattle.sip_heavy.specs.Checking.{Takes}
-use Rattle.sip_heavy.proofs.Given.{front_more, front_refused, front_all}
+use Rattle.sip_heavy.proofs.Given.{Advances-again, front_more, front_refused, front_all}
 use Rattle.sip_heavy.proofs.heavy_asking.give_nodes.Goals as goal
 
 none : Node
@@ -22,17 +22,10 @@ unfolding none
 loop-row-preserved c =
     let rows = c.args.rows.now in
     let i = c.loop-row.row-index in
-    let old = c.loop-row.invariant.advances in
-    let step = c.node.ensures.advances in
     record {
       front = front_more m61_modulus c.args.check.now c.loop-row.check c.node.new.self rows (drop i rows) (get_or rows i none) (drop (i + 1) rows) _
-          (drop_more rows i none c.loop-row-test.true) c.loop-row.invariant.front (subst (λ (h : ℕ). Takes m61_modulus c.loop-row.check (record { index = (get_or rows i none).index; hash = h; count = (get_or rows i none).count } ∷ []) c.node.new.self c.node.result) c.of_number.ensures c.node.ensures.answers) c.in_ok-node.was (omega (arith, step.level));
-      advances = record {
-        challenges = step.challenges ∙ old.challenges;
-        level = omega (arith, step.level, old.level);
-        revealed = omega (arith, step.revealed, old.revealed);
-        room = step.room ∙ old.room;
-      };
+          (drop_more rows i none c.loop-row-test.true) c.loop-row.invariant.front (subst (λ (h : ℕ). Takes m61_modulus c.loop-row.check (record { index = (get_or rows i none).index; hash = h; count = (get_or rows i none).count } ∷ []) c.node.new.self c.node.result) c.of_number.ensures c.node.ensures.answers) c.in_ok-node.was (omega (arith, c.node.ensures.advances.level));
+      advances = Advances-again c.args.check.now c.loop-row.check c.node.new.self c.loop-row.invariant.advances c.node.ensures.advances;
       unspent = rw c.in_ok-node.was at c.node.ensures.spent;
     }
 
