@@ -173,3 +173,8 @@ is_allowed_by (Err x) b h e = absurd cc
 pub on_ok_holds : {T E : Type 0} (P : Type 0) (r : Result T E) → is_err r ≡ false → OnOk r P → P
 on_ok_holds P (Ok x) e h = h
 on_ok_holds P (Err x) e h = absurd cc
+
+-- what was taken may come, and the state after it is that of the rules
+pub is_heard : {S T E : Type 0} (r : TurnRules S) (s new : S) (m : Message) (result : Result T E) → is_err result ≡ false → (IsOk result → IsTrue (r.is_allowed s m)) × (IsTrue (r.is_allowed s m) → IsOk result)
+    → OnOk result ((memory : Bool) × (new ≡ r.step s memory m)) → IsTrue (r.is_allowed s m) × ((memory : Bool) × (new ≡ r.step s memory m))
+is_heard r s new m result went turn heard = (is_allowed_by result (r.is_allowed s m) turn went, on_ok_holds ((memory : Bool) × (new ≡ r.step s memory m)) result went heard)

@@ -1,11 +1,10 @@
 -- The next node stands in front of those that are left.
-use Rattle.std.proofs.Common.{◌≡◌, ℕ, ◌+◌, List, [], ◌∷◌, ◌++◌, slice_get, Some, sym, ap, ◌∙◌, append_assoc}
-use Rattle.std.specs.Option.{option_map}
+use Rattle.std.proofs.Common.{◌≡◌, ℕ, ◌+◌, List, [], ◌∷◌, ◌++◌, sym, ap, ◌∙◌, append_assoc}
 use Rattle.sip_field.specs.Elements.{m61_number}
 use Rattle.sip_wire.specs.declared.message.Node.{Node}
 use Rattle.sip_heavy.specs.Honest.{its_nodes, node_of}
 use Rattle.sip_heavy.specs.Spots.{from_on}
-use Rattle.sip_heavy.proofs.ShownWalks.{each_found, none_found}
+use Rattle.sip_helper.proofs.ShownFrames.{front_found, last_found}
 use Rattle.sip_helper.proofs.nodes.next_nodes.Goals as goal
 
 pub loop-node-preserved : goal.loop-node-preserved
@@ -13,16 +12,14 @@ loop-node-preserved c =
     let s = c.args.prover.now in
     let rows = c.loop-node.rows.items in
     let node = c.in-Some.node in
-    let x : Node = node_of m61_number node in
     let rest = from_on (node.index + 1) (its_nodes s) in
-    let first : slice_get (from_on c.loop-node.next (its_nodes s)) 0 ≡ Some x = sym c.next_node.ensures.first ∙ ap (option_map (node_of m61_number)) c.in-Some.is in
     let pushed = ap (λ (h : ℕ). let y : Node = record { index = node.index; hash = h; count = node.count } in (rows ++ y ∷ []) ++ rest) (sym c.number.ensures) in
     c.loop-node.invariant
-    ∙ ap (λ (l : List Node). rows ++ l) (each_found s c.loop-node.next x first)
-    ∙ sym (append_assoc rows (x ∷ []) rest)
+    ∙ ap (λ (l : List Node). rows ++ l) (front_found s (node_of m61_number) c.loop-node.next node c.next_node.result c.next_node.ensures.first c.in-Some.is)
+    ∙ sym (append_assoc rows (node_of m61_number node ∷ []) rest)
     ∙ pushed
     ∙ ap (λ (l : List Node). l ++ rest) (sym c.push.ensures.items)
 
 pub returns-clause-last : goal.returns-clause-last
 returns-clause-last c = λ _.
-    none_found c.loop-node.next (its_nodes c.args.prover.now) (sym c.next_node.ensures.first ∙ ap (option_map (node_of m61_number)) c.in_default.is)
+    last_found c.args.prover.now (node_of m61_number) c.loop-node.next c.next_node.result c.next_node.ensures.first c.in_default.is
