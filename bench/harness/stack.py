@@ -10,7 +10,8 @@ from harness.settings import reachable, stream_word
 from harness.streams import put
 from harness.talks import Talks, made, parts
 
-MOST = 64 * 1024
+# What `verify` and `help` may touch, and what README allows to every command.
+ENDS, MOST = 64 * 1024, 96 * 1024
 RECORDS = 100_000
 MADE = f"made:7:{RECORDS}"
 
@@ -51,16 +52,16 @@ class Stacks:
         print(f"\nstack, {RECORDS} records: bytes of the main thread's that were touched, by pages")
         print(f"{'':26}" + "".join(f"{name:>9}" for name in programs))
 
-    def line(self, line, stacks):
+    def line(self, line, stacks, most=MOST):
         cells = [str(stacks.get(name, "-")) for name in self.programs]
         print(line.ljust(26) + "".join(f"{cell:>9}" for cell in cells), flush=True)
-        if stacks["sip"] > MOST:
-            self.above.append(f"stack: {line} uses {stacks['sip']} bytes, and {MOST} are allowed")
+        if stacks["sip"] > most:
+            self.above.append(f"stack: {line} uses {stacks['sip']} bytes, and {most} are allowed")
 
-    def talk(self, talks, label, stacks):
+    def talk(self, talks, label, stacks, most=MOST):
         """The lines of both ends, of the stacks of each program's."""
         for which, end in enumerate((talks.HELPING, talks.ASKING)):
-            self.line(f"{end:8} {talks.depth} {label}", {name: ends[which] for name, ends in stacks.items()})
+            self.line(f"{end:8} {talks.depth} {label}", {name: ends[which] for name, ends in stacks.items()}, most)
 
 
 def see_talks(table, programs, settings, depth, work):
@@ -71,7 +72,7 @@ def see_talks(table, programs, settings, depth, work):
         stacks = {}
         for name, program in reachable(programs, depth):
             stacks[name] = [child.stack for child in talks.talk(name, program, words, traced=True)]
-        table.talk(talks, label, stacks)
+        table.talk(talks, label, stacks, ENDS)
 
 
 def see_own_talks(table, program, depth, work):
