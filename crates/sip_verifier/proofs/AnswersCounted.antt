@@ -1,5 +1,5 @@
 -- Answers that a query is given count for the replies that came.
-use Rattle.std.proofs.Common.{◌≡◌, ℕ, zero, suc, IsTrue, List, [], ◌∷◌, drop, Option, Result, Ok, Err, subst}
+use Rattle.std.proofs.Common.{◌≡◌, ℕ, zero, suc, IsTrue, List, [], ◌∷◌, drop, get_or, Option, Result, Ok, Err, subst}
 use Rattle.std.specs.List.{list_all}
 use Rattle.std.proofs.lemmas.Bool.{and_parts}
 use Rattle.sip_wire.specs.declared.version.Version.{Version}
@@ -17,6 +17,13 @@ use Rattle.sip_verifier.specs.QuerySeats.{Seated, is_seat}
 use Rattle.sip_verifier.proofs.CountedQuestions.{question_counts}
 use Rattle.sip_verifier.proofs.Seating.{seat_parts}
 use Rattle.sip_verifier.proofs.SeatsHead.{fits-asked}
+
+-- the first seat that is left is at that place
+pub first_left : (n : ℕ) (seats : List Seated) (seat d : Seated) (more : List Seated) → drop n seats ≡ seat ∷ more → get_or seats n d ≡ seat
+first_left zero [] seat d more e = absurd cc
+first_left zero (x ∷ seats) seat d more e = let same : x ≡ seat = cc in same
+first_left (suc n) [] seat d more e = absurd cc
+first_left (suc n) (x ∷ seats) seat d more e = first_left n seats seat d more e
 
 -- the query of the first seat that is left fits the depth
 pub left_fits : (depth n : ℕ) (seats : List Seated) (seat : Seated) (more : List Seated) → IsTrue (list_all (is_seat depth) seats) → drop n seats ≡ seat ∷ more → Fits depth seat.query

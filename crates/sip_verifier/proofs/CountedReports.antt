@@ -10,7 +10,6 @@ use Rattle.sip_verifier.specs.CountClause.{FewFor, CountsFor, Written, CountClau
 use Rattle.sip_verifier.specs.Exchanges.{Exchange}
 use Rattle.sip_verifier.specs.Inquiries.{Inquiry}
 use Rattle.sip_verifier.specs.Questions.{Accepts, Question, asking, updates, Done}
-use Rattle.sip_verifier.specs.Statuses.{IsListed}
 use Rattle.sip_verifier.specs.Tasks.{CanBeAsked}
 use Rattle.sip_verifier.specs.VerdictClause.{VerdictClause}
 use Rattle.sip_verifier.proofs.CountedQuestions.{few_wrong, question_counts}
@@ -46,8 +45,8 @@ module _ (i : Inquiry) (x : Exchange) (can : All (CanBeAsked i.depth) i.queries)
   pub lines_counted : (w : Reported) → written_of w.done ≡ (counts_of w).lines
   lines_counted w = sym (general.counts_lines asking counting i x (few_of i.queries can) (Fits i.depth) fits each_counts w)
 
-  pub reported : (status : Status) → VerdictClause i x status → IsListed status → Reported
-  reported status v is = general.reported asking counting i x (few_of i.queries can) (Fits i.depth) fits each_counts status v is
+  pub reported : (status : Status) → VerdictClause i x status → Reported
+  reported status v = general.reported asking counting i x (few_of i.queries can) (Fits i.depth) fits each_counts status v
 
-  pub report_counts : (status : Status) → VerdictClause i x status → IsListed status → CountClause i x
-  report_counts status v is = counts_of (reported status v is)
+  pub report_counts : (status : Status) → VerdictClause i x status → CountClause i x
+  report_counts status v = counts_of (reported status v)

@@ -263,7 +263,7 @@ module _ (i : Inquiry) (x : Exchange) (can : All (CanBeAsked i.depth) i.queries)
   -- both clauses hold of the same lines
   pub counted_jointly : (status : Status) → VerdictClause i x status → IsListed status → (count : CountClause i x) × JointClause i x count.lines
   counted_jointly status v is =
-      let r : Reported i x can = reported i x can status v is in (
+      let r : Reported i x can = reported i x can status v in (
         counts_of i x can r,
         subst (JointClause i x) (lines_counted i x can r) (record {
           few = few;

@@ -17,7 +17,7 @@ use Rattle.sip_verifier.specs.AskClause.{AskClause}
 use Rattle.sip_verifier.specs.CheckClause.{CheckClause}
 use Rattle.sip_verifier.specs.inside.Ending.{status_of_fault}
 use Rattle.sip_verifier.specs.Keeping.{AllIsKept, KeepsTalk, WholeIsKept}
-use Rattle.sip_verifier.specs.Snapshots.{Counts, SinkState, counts}
+use Rattle.sip_verifier.specs.Snapshots.{Counts, SinkState, between, counts}
 use Rattle.sip_verifier.specs.Statuses.{FaultClause, Stops, stops_asking}
 use Rattle.sip_verifier.proofs.KeptQueries.{kept_then}
 use Rattle.sip_verifier.proofs.QueriesChecked.{OnLink, OnReport, since_before}
@@ -47,13 +47,13 @@ link_wanted sent (Err status) (port_stops.OutOfMemory, was, so) is = was
 
 module _ (version : Version) (old new blank full before now : SinkState) where
   -- all went well
-  pub well_keeps : WholeIsKept old.told new.told before.told now.told version → CheckClause version old new blank full before now (Ok tt)
+  pub well_keeps : WholeIsKept old.told new.told before.told now.told version → CheckClause version (between old new) (between blank full) (between before now) (Ok tt)
   well_keeps kept = record { kept = kept; fault = λ first firsts second seconds. tt; memory = λ is. absurd cc }
 
   -- its line was written, whole or not
   pub line_keeps : (written : Result (Unit {0}) PortStop) (r : Result (Unit {0}) Status) → OnReport written r
       → (IsErrOf written port_stops.Failed → Rose blank.faults full.faults) → (IsErrOf written port_stops.OutOfMemory → Rose blank.wants full.wants)
-      → KeepsTalk old.told new.told before.told now.told version r → CheckClause version old new blank full before now r
+      → KeepsTalk old.told new.told before.told now.told version r → CheckClause version (between old new) (between blank full) (between before now) r
   line_keeps written r on failed wanted kept = record {
     kept = kept;
     fault = λ first firsts second seconds. line_stops _ _ written r on failed;
@@ -62,12 +62,12 @@ module _ (version : Version) (old new blank full before now : SinkState) where
 
   -- the line of its rejection was written
   pub rejected_keeps : (query round : ℕ) (reason : Reason) → AllIsKept old.told new.told before.told now.told
-      → CheckClause version old new blank full before now (Err (statuses.Rejected query round reason))
+      → CheckClause version (between old new) (between blank full) (between before now) (Err (statuses.Rejected query round reason))
   rejected_keeps query round reason kept = record { kept = kept; fault = λ first firsts second seconds. (refl, tt); memory = λ is. absurd cc }
 
   -- it has no verdict
-  pub unjudged_keeps : {G : Type 0} (fault : SessionFault) → AskClause {G = G} version old new before now (Err (Fault fault))
-      → CheckClause version old new blank full before now (Err (status_of_fault fault))
+  pub unjudged_keeps : {G : Type 0} (fault : SessionFault) → AskClause {G = G} version (between old new) (between before now) (Err (Fault fault))
+      → CheckClause version (between old new) (between blank full) (between before now) (Err (status_of_fault fault))
   unjudged_keeps faults.PeerFault k = record { kept = k.kept; fault = λ first firsts second seconds. (refl, k.cause refl); memory = λ is. absurd cc }
   unjudged_keeps faults.KeepFault k = record { kept = k.kept; fault = λ first firsts second seconds. (refl, k.keep_cause refl); memory = λ is. absurd cc }
   unjudged_keeps faults.OutOfMemory k = record {
@@ -115,7 +115,7 @@ module _ (version : Version) (old mid new blank half full before during now : Si
   wanted_since (inr (inr rose)) = inr (inr (Rose-since before.wants during.wants now.wants keep.wants_later rose))
 
   -- one more behind those that were accepted
-  pub checked_then : (r : Result (Unit {0}) Status) → CheckClause version mid new half full during now r → CheckClause version old new blank full before now r
+  pub checked_then : (r : Result (Unit {0}) Status) → CheckClause version (between mid new) (between half full) (between during now) r → CheckClause version (between old new) (between blank full) (between before now) r
   checked_then r k = record {
     kept = kept_then version old.told mid.told new.told before.told during.told now.told whole r k.kept;
     fault = λ first firsts second seconds. stops_since first firsts second seconds r (k.fault first firsts second seconds);

@@ -1,4 +1,4 @@
-mod Seating
+pub mod Seating
 mod SeatsRaised
 pub mod SeatTotals
 pub mod HeavyNegatives
@@ -8,7 +8,7 @@ pub mod FramesFit
 pub mod Sends
 pub mod DueFrames
 mod HeldRows
-mod SeatsGiven
+pub mod SeatsGiven
 pub mod SeatsDrawn
 mod Challenges
 pub mod SeatsHead
@@ -19,6 +19,7 @@ pub mod StreamSending
 pub mod SeedRead
 pub mod Gathered
 pub mod QueryAsked
+mod AskedOver
 pub mod SeatAsked
 pub mod SessionAsks
 pub mod QueriesChecked
@@ -61,4 +62,4 @@ mod SumSizes
 mod NodeSizes
 mod ShortTalks
 mod SeatLevels
-mod RootAsked
+pub mod RootAsked

@@ -26,12 +26,13 @@ use Rattle.sip_verifier.specs.inside.Judging.{found_in, verdict_of}
 use Rattle.sip_verifier.specs.QuerySeats.{Seated, root_is}
 use Rattle.sip_verifier.specs.ReplyBound.{ReplyBound}
 use Rattle.sip_verifier.proofs.AnswersCounted.{answers_count}
-use Rattle.sip_verifier.proofs.SeatAsked.{sub_asks}
+use Rattle.sip_verifier.proofs.QueryAsked.{asks}
+use Rattle.sip_verifier.proofs.SeatAsked.{sub_is_protocol}
 use Rattle.sip_verifier.proofs.SeatLevels.{seat_levels}
 use Rattle.sip_verifier.proofs.ShortTalks.{asks_short}
 
 -- a sub-vector has a code in each version
-has_code : (version : Version) (lo hi : ℕ) → IsTrue (speaks version (Sub lo hi))
+pub has_code : (version : Version) (lo hi : ℕ) → IsTrue (speaks version (Sub lo hi))
 has_code One lo hi = refl
 has_code Two lo hi = refl
 
@@ -62,7 +63,8 @@ module _ (version : Version) (lo hi : ℕ) (block : List ℕ) (value : ℕ) (dep
       → RootAnswers version lo hi block value block old new before now places result
       → Asks version depth stream (Sub lo hi) block old new (take (found_in (length places) result) places) (verdict_of result)
   root_asks old new before now places result answers =
-      sub_asks version depth stream seated lo hi value block block old new before now places result refl refl refl refl stands answers
+      asks version depth stream (Sub lo hi) block old new before now (sub_protocol (sub_asked version m61_modulus value lo hi block))
+      (sub_is_protocol version depth stream (Sub lo hi) block lo hi value refl stands) places result answers
 
   module _ (old new : Option (List TalkEvent)) (entries : List Entry) (result : Result Verdict SessionFault)
       (asked : Asks version depth stream (Sub lo hi) block old new entries result) where

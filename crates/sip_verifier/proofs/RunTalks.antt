@@ -11,7 +11,8 @@ use Rattle.sip_verifier.specs.declared.status.Status.TheVariants as statuses
 use Rattle.sip_verifier.specs.declared.task.Task.{Task}
 use Rattle.sip_replies.specs.Talks.{IsPrefix}
 use Rattle.sip_verifier.specs.Exchanges.{Appends, Exchange, Tells}
-use Rattle.sip_verifier.specs.Gathering.{Refuses}
+use Rattle.sip_verifier.specs.Gathering.{IsGathered, Refuses}
+use Rattle.sip_verifier.specs.Seats.{Seating}
 use Rattle.sip_verifier.specs.Snapshots.{Snapshot, IsTold}
 use Rattle.sip_verifier.specs.Reports.{rejection}
 use Rattle.sip_verifier.specs.runs.Concluding.{Reports}
@@ -81,6 +82,16 @@ tells old new is still said went bytes wrote record_of kept =
       record { stream = first.0; unread = left.0; seed = second.0; talk = said; report = bytes; kept = grows.0 },
       record { stream = first.1; unread = left.1; seed = second.1; talk = goes_to old.talk new.talk said is.talk went; report = goes_to old.report new.report (outs bytes) is.report wrote; kept = grows.1 },
     )
+
+-- likewise where the stream was passed on, and nothing was written or kept since
+pub passed_tells : (task : Task) (seats : Seating) (old new : Snapshot) → IsTold old → (IsSome old.first → IsSome new.first)
+    → ((bytes seed : List ℕ) → old.first ≡ Some bytes → old.second ≡ Some seed → IsGathered task bytes seed new.first old.talk new.talk seats)
+    → GoesOn old.report new.report [] → GoesOn old.keep new.keep []
+    → (x : Exchange) × Tells old new x
+passed_tells task seats old new is still gathers wrote kept =
+    let bytes = some_value old.first is.first in
+    let seed = some_value old.second is.second in
+    tells old new is still _ (gathers bytes.0 seed.0 bytes.1 seed.1).passed.talk [] wrote [] kept
 
 -- ---- what went on
 

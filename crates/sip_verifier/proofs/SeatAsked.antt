@@ -1,14 +1,12 @@
 -- The general talk of a seat's query, kind by kind.
-use Rattle.std.proofs.Common.{◌≡◌, ℕ, ℤ, ap, ◌*◌, ◌%◌, ◌≤◌, Option, Some, Result, List, length, take, ◌^◌, refl, sym, subst, ◌∙◌, inl, inr, arith}
+use Rattle.std.proofs.Common.{◌≡◌, ℕ, ℤ, ap, ◌*◌, ◌%◌, ◌≤◌, Some, List, length, ◌^◌, refl, sym, subst, ◌∙◌, inl, inr, arith}
 use Rattle.std.specs.Prelude.{IsTrue}
 use Rattle.std.proofs.lemmas.Bool.{cases_order}
 use Rattle.std.proofs.lemmas.Nat.{pow_below}
 use Rattle.sip_wire.specs.declared.version.Version.{Version}
 use Rattle.sip_field.specs.Moduli.{m61_modulus}
-use Rattle.sip_ports.specs.declared.port.TalkEvent.{TalkEvent}
 use Rattle.sip_vector.specs.declared.query.Query.{Query}
 use Rattle.sip_vector.specs.declared.query.Query.TheVariants.{Sub, Range, F2, Inner, Heavy, Share, Above}
-use Rattle.sip_vector.specs.declared.update.Entry.{Entry}
 use Rattle.sip_vector.specs.declared.update.Side.{Side}
 use Rattle.sip_vector.specs.declared.update.Side.TheVariants.{First, Second}
 use Rattle.sip_vector.specs.declared.update.Update.{Update}
@@ -20,25 +18,21 @@ use Rattle.sip_vector.proofs.Sides.{length-vector}
 use Rattle.sip_mle.specs.StandsFor.{PointStandsFor}
 use Rattle.sip_wire.specs.declared.message.Message.TheVariants as messages
 use Rattle.sip_wire.specs.Spelling.{fits}
-use Rattle.sip_replies.specs.declared.asking.AskStop.{AskStop}
-use Rattle.sip_replies.specs.declared.check.Said.{Said}
-use Rattle.sip_replies.specs.Asking.{Answers}
-use Rattle.sip_replies.specs.Protocols.{Protocol}
-use Rattle.sip_subvec.specs.AcceptsSub.{Stated}
 use Rattle.sip_subvec.specs.Asking.{most_answer}
 use Rattle.sip_subvec.specs.Protocol.{sub_asked, sub_protocol}
 use Rattle.sip_sums.specs.AcceptsSum.{product_at}
-use Rattle.sip_sums.specs.Protocol.{SumState, sum_asked, sum_protocol}
+use Rattle.sip_sums.specs.Protocol.{sum_asked, sum_protocol}
 use Rattle.sip_sums.specs.Questions.{Lists, lists, lists_of}
-use Rattle.sip_verifier.specs.Asking.{Asks}
+use Rattle.sip_replies.specs.Replies as replied
+use Rattle.sip_verifier.specs.Asking.{question_of}
+use Rattle.sip_verifier.specs.Kinds.{Kind, KindRow, built, heavy_kind, kind_row, sub_kind, sum_kind, Holds}
+use Rattle.sip_verifier.specs.Questions.{IsDue, said_by_kind}
 use Rattle.sip_verifier.specs.Rooms.{most_places}
-use Rattle.sip_verifier.specs.inside.Judging.{found_in, verdict_of}
 use Rattle.sip_verifier.specs.QuerySeats.{RunningNumbers, Seated, root_is, point_is, points_are, aug_root_is, RunsOn, StandsFor, is_seat}
 use Rattle.sip_wire.specs.Versions.{Speaks}
 use Rattle.sip_wire.proofs.Asking.{query-fits}
-use Rattle.sip_heavy.specs.Protocol.{HeavyState, heavy_asked, heavy_protocol}
+use Rattle.sip_heavy.specs.Protocol.{heavy_asked, heavy_protocol}
 use Rattle.sip_verifier.specs.inside.Protocols.{IsProtocol}
-use Rattle.sip_verifier.proofs.QueryAsked.{asks}
 use Rattle.sip_verifier.proofs.SeatTotals.{root_total}
 use Rattle.sip_verifier.proofs.SeatsHead.{seat-fits}
 
@@ -48,6 +42,23 @@ pub seat_has_spelling : (version : Version) (s : Seated) → IsTrue (is_seat (le
 seat_has_spelling version s seat speaks =
     query-fits version (length s.block) s.query speaks (seat-fits (length s.block) s s.block seat refl)
 
+-- by this spelling it is asked
+pub asked_has_spelling : (version : Version) (s : Seated) (query : Query) → query ≡ s.query → IsTrue (is_seat (length s.block) s)
+    → Speaks version (length s.block) s.query → IsTrue (fits version (messages.Query query))
+asked_has_spelling version s query same seat speaks =
+    subst (λ (q : Query). IsTrue (fits version (messages.Query q))) (sym same) (seat_has_spelling version s seat speaks)
+
+-- what is said and what holds by the protocol of a query's kind is so of the query's questions
+of_row : (version : Version) (depth : ℕ) (stream : List Update) (query : Query) (block : List ℕ) (kind : Kind)
+    → kind_row version depth stream query ≡ built kind → IsProtocol version depth stream query block (kind.protocol block)
+of_row version depth stream query block kind is = record {
+  said = λ replies. sym (ap (λ (row : KindRow). said_by_kind row (question_of query block replies)) is);
+  accepts = λ replies answer a. subst (Holds (λ k. replied.IsAccepted (k.protocol block) block replies answer)) (sym is) a;
+  faulty = λ replies fault f. subst (Holds (λ k. replied.IsFaulty (k.protocol block) block replies fault)) (sym is) f;
+  unjudged = λ replies ended u. subst (Holds (λ k. replied.IsUnjudged (k.protocol block) block replies ended)) (sym is) u;
+  waits = λ replies w. subst (Holds (λ k. IsDue (k.protocol block) block replies)) (sym is) w;
+}
+
 -- ---- a sub-vector
 
 -- its answer has room
@@ -56,21 +67,14 @@ pub sub_has_room : (s : Seated) (lo hi room : ℕ) → s.query ≡ Sub lo hi
 sub_has_room s lo hi room is has = subst (λ (q : Query). most_places q s.running ≤ room) is has
 
 -- its protocol is that of the stream for which its root stands
-sub_is_protocol : (version : Version) (depth : ℕ) (stream : List Update) (query : Query) (block : List ℕ)
+pub sub_is_protocol : (version : Version) (depth : ℕ) (stream : List Update) (query : Query) (block : List ℕ)
     (lo hi value : ℕ) → query ≡ Sub lo hi → RunsOn depth stream query block (root_is value)
     → IsProtocol version depth stream query block (sub_protocol (sub_asked version m61_modulus value lo hi block))
 sub_is_protocol version depth stream (Sub low high) block lo hi value is stands =
     let same_lo : low ≡ lo = cc in
     let same_hi : high ≡ hi = cc in
     let same = stands.same in
-    rw (sym same_lo, sym same_hi, same)
-    (record {
-      said = λ replies. refl;
-      accepts = λ replies answer a. a;
-      faulty = λ replies fault f. f;
-      unjudged = λ replies ended u. u;
-      waits = λ replies w. w;
-    })
+    rw (sym same_lo, sym same_hi, same) (of_row version depth stream (Sub low high) block (sub_kind version (vector depth stream First) low high) refl)
 sub_is_protocol version depth stream (Range side low high) block lo hi value is stands = absurd stands
 sub_is_protocol version depth stream (F2 side) block lo hi value is stands = absurd stands
 sub_is_protocol version depth stream Inner block lo hi value is stands = absurd stands
@@ -78,81 +82,39 @@ sub_is_protocol version depth stream (Heavy side at_least) block lo hi value is 
 sub_is_protocol version depth stream (Share side num den) block lo hi value is stands = absurd stands
 sub_is_protocol version depth stream (Above side least) block lo hi value is stands = absurd stands
 
-pub sub_asks : (version : Version) (depth : ℕ) (stream : List Update) (s : Seated) (lo hi value : ℕ)
-    (block at : List ℕ) (old new before now : Option (List TalkEvent)) (places : List Entry)
-    (result : Result Said AskStop)
-    → s.query ≡ Sub lo hi → s.block ≡ block → s.running ≡ root_is value
-    → at ≡ block → StandsFor depth stream s
-    → Answers (sub_protocol (sub_asked version m61_modulus value lo hi block)) (messages.Query s.query) at old new before now
-    places result → Asks version depth stream s.query s.block old new
-    (take (found_in (length places) result) places) (verdict_of result)
-sub_asks version depth stream s lo hi value block at old new before now places result is own keeps
-    same stands answers =
-    let P : Protocol Stated = sub_protocol (sub_asked version m61_modulus value lo hi block) in
-    let given = subst (λ (b : List ℕ). Answers P (messages.Query s.query) b old new before now places result) same
-    answers in
-    let runs = subst (λ (r : RunningNumbers). RunsOn depth stream s.query block r) keeps
-    (subst (λ (b : List ℕ). RunsOn depth stream s.query b s.running) own stands) in
-    subst (λ (b : List ℕ). Asks version depth stream s.query b old new
-    (take (found_in (length places) result) places) (verdict_of result)) (sym own)
-    (asks version depth stream s.query block old new before now P
-    (sub_is_protocol version depth stream s.query block lo hi value is runs)
-    places result given)
+-- by the running numbers of a seat
+pub sub_protocol_is : (version : Version) (depth : ℕ) (stream : List Update) (s : Seated) (block : List ℕ) (lo hi value : ℕ)
+    → s.query ≡ Sub lo hi → s.running ≡ root_is value → s.block ≡ block → StandsFor depth stream s
+    → IsProtocol version depth stream s.query block (sub_protocol (sub_asked version m61_modulus value lo hi block))
+sub_protocol_is version depth stream s block lo hi value is keeps own stands =
+    sub_is_protocol version depth stream s.query block lo hi value is
+    (subst (λ (r : RunningNumbers). RunsOn depth stream s.query block r) keeps
+    (subst (λ (b : List ℕ). RunsOn depth stream s.query b s.running) own stands))
 
 -- ---- a sum
 
+-- its row has the two lists
+sum_row : (version : Version) (depth : ℕ) (stream : List Update) (query : Query) (l : Lists) → lists_of depth stream query ≡ Some l
+    → kind_row version depth stream query ≡ built (sum_kind version depth l.first l.second)
+sum_row version depth stream (Sub low high) l is = absurd cc
+sum_row version depth stream (Range side low high) l is =
+    let own : l ≡ lists (vector depth stream side) (ones depth low high) = cc in rw own refl
+sum_row version depth stream (F2 side) l is =
+    let own : l ≡ lists (vector depth stream side) (vector depth stream side) = cc in rw own refl
+sum_row version depth stream Inner l is =
+    let own : l ≡ lists (vector depth stream First) (vector depth stream Second) = cc in rw own refl
+sum_row version depth stream (Heavy side at_least) l is = absurd cc
+sum_row version depth stream (Share side num den) l is = absurd cc
+sum_row version depth stream (Above side least) l is = absurd cc
+
 -- its protocol is that of the product of the two extensions
-sum_is_protocol : (version : Version) (depth : ℕ) (stream : List Update) (query : Query) (block : List ℕ)
+pub sum_is_protocol : (version : Version) (depth : ℕ) (stream : List Update) (query : Query) (block : List ℕ)
     (l : Lists) (product : ℕ) → lists_of depth stream query ≡ Some l
     → product ≡ product_at m61_modulus l.first l.second block
     → IsProtocol version depth stream query block (sum_protocol (sum_asked version m61_modulus product))
-sum_is_protocol version depth stream (Sub low high) block l product is same = absurd cc
-sum_is_protocol version depth stream (Range side low high) block l product is same =
-    let own : l ≡ lists (vector depth stream side) (ones depth low high) = cc in
-    rw (same, own) (record {
-      said = λ replies. refl;
-      accepts = λ replies answer a. a;
-      faulty = λ replies fault f. f;
-      unjudged = λ replies ended u. u;
-      waits = λ replies w. w;
-    })
-sum_is_protocol version depth stream (F2 side) block l product is same =
-    let own : l ≡ lists (vector depth stream side) (vector depth stream side) = cc in
-    rw (same, own) (record {
-      said = λ replies. refl;
-      accepts = λ replies answer a. a;
-      faulty = λ replies fault f. f;
-      unjudged = λ replies ended u. u;
-      waits = λ replies w. w;
-    })
-sum_is_protocol version depth stream Inner block l product is same =
-    let own : l ≡ lists (vector depth stream First) (vector depth stream Second) = cc in
-    rw (same, own) (record {
-      said = λ replies. refl;
-      accepts = λ replies answer a. a;
-      faulty = λ replies fault f. f;
-      unjudged = λ replies ended u. u;
-      waits = λ replies w. w;
-    })
-sum_is_protocol version depth stream (Heavy side at_least) block l product is same = absurd cc
-sum_is_protocol version depth stream (Share side num den) block l product is same = absurd cc
-sum_is_protocol version depth stream (Above side least) block l product is same = absurd cc
-
-pub sum_asks : (version : Version) (depth : ℕ) (stream : List Update) (s : Seated) (l : Lists) (product : ℕ)
-    (at : List ℕ) (old new before now : Option (List TalkEvent)) (places : List Entry)
-    (result : Result Said AskStop)
-    → lists_of depth stream s.query ≡ Some l → product ≡ product_at m61_modulus l.first l.second s.block
-    → at ≡ s.block
-    → Answers (sum_protocol (sum_asked version m61_modulus product)) (messages.Query s.query) at old new before now
-    places result → Asks version depth stream s.query s.block old new
-    (take (found_in (length places) result) places) (verdict_of result)
-sum_asks version depth stream s l product at old new before now places result is product_is same answers =
-    let P : Protocol SumState = sum_protocol (sum_asked version m61_modulus product) in
-    let given = subst (λ (b : List ℕ). Answers P (messages.Query s.query) b old new before now places result) same
-    answers in
-    asks version depth stream s.query s.block old new before now P
-    (sum_is_protocol version depth stream s.query s.block l product is product_is)
-    places result given
+sum_is_protocol version depth stream query block l product is same =
+    subst (λ n. IsProtocol version depth stream query block (sum_protocol (sum_asked version m61_modulus n))) (sym same)
+    (of_row version depth stream query block (sum_kind version depth l.first l.second) (sum_row version depth stream query l is))
 
 -- ---- the product of a seat
 
@@ -217,13 +179,7 @@ heavy_is_protocol version depth stream (Heavy own least) block side at_least has
     let hash_is : hash ≡ (augroot m61_modulus (vector depth stream own) block).hash = ap (λ (n : Counted). n.hash) stands.same in
     let sum_is : sum ≡ int_sum (vector depth stream own) = root_total m61_modulus block hash sum (vector depth stream own) stands in
     let size : length block ≡ depth = same_power (length block) depth (sym stands.whole ∙ length-vector depth stream own) in
-    rw (sym same_least, hash_is, sum_is, size) (record {
-      said = λ replies. refl;
-      accepts = λ replies answer a. a;
-      faulty = λ replies fault f. f;
-      unjudged = λ replies ended u. u;
-      waits = λ replies w. w;
-    })
+    rw (sym same_least, hash_is, sum_is, size) (of_row version depth stream (Heavy own least) block (heavy_kind version depth stream own least) refl)
 heavy_is_protocol version depth stream (Share own num den) block side at_least hash sum is stands = absurd cc
 heavy_is_protocol version depth stream (Above own least) block side at_least hash sum is stands = absurd stands
 
@@ -244,13 +200,8 @@ share_is_protocol version depth stream (Share own over under) block side num den
     let hash_is : hash ≡ (augroot m61_modulus (vector depth stream own) block).hash = ap (λ (n : Counted). n.hash) stands.same in
     let sum_is : sum ≡ int_sum (vector depth stream own) = root_total m61_modulus block hash sum (vector depth stream own) stands in
     let size : length block ≡ depth = same_power (length block) depth (sym stands.whole ∙ length-vector depth stream own) in
-    rw (least, sym same_num, sym same_den, hash_is, sum_is, size) (record {
-      said = λ replies. refl;
-      accepts = λ replies answer a. a;
-      faulty = λ replies fault f. f;
-      unjudged = λ replies ended u. u;
-      waits = λ replies w. w;
-    })
+    rw (least, sym same_num, sym same_den, hash_is, sum_is, size) (of_row version depth stream (Share own over under) block
+    (heavy_kind version depth stream own (share_of over under (int_sum (vector depth stream own)))) refl)
 
 -- by the running numbers of a seat
 pub heavy_protocol_is : (version : Version) (depth : ℕ) (stream : List Update) (s : Seated) (block : List ℕ)
@@ -269,14 +220,3 @@ share_protocol_is version depth stream s block side num den at_least hash sum is
     share_is_protocol version depth stream s.query block side num den at_least hash sum is least
     (subst (λ (r : RunningNumbers). RunsOn depth stream s.query block r) keeps
     (subst (λ (b : List ℕ). RunsOn depth stream s.query b s.running) own stands))
-
-pub heavy_asks : (version : Version) (depth : ℕ) (stream : List Update) (query : Query) (at_least hash : ℕ) (sum : ℤ)
-    (block at : List ℕ) (old new before now : Option (List TalkEvent)) (places : List Entry) (result : Result Said AskStop)
-    → at ≡ block → IsProtocol version depth stream query block (heavy_protocol (heavy_asked version m61_modulus hash sum (length block) at_least))
-    → Answers (heavy_protocol (heavy_asked version m61_modulus hash sum (length block) at_least)) (messages.Query query) at old new before now
-    places result → Asks version depth stream query block old new
-    (take (found_in (length places) result) places) (verdict_of result)
-heavy_asks version depth stream query at_least hash sum block at old new before now places result same is answers =
-    let P : Protocol HeavyState = heavy_protocol (heavy_asked version m61_modulus hash sum (length block) at_least) in
-    let given = subst (λ (b : List ℕ). Answers P (messages.Query query) b old new before now places result) same answers in
-    asks version depth stream query block old new before now P is places result given

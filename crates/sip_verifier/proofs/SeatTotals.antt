@@ -60,7 +60,7 @@ root_total p block hash total numbers stands =
 abbrev pub size : Update → ℕ
 size u = nat_abs u.delta
 
-light_after : (updates : List Update) (total : ℤ) (w k : ℕ) → nat_abs total ≤ w → nat_abs (total_after total (take k updates)) ≤ w + sum_by size updates
+pub light_after : (updates : List Update) (total : ℤ) (w k : ℕ) → nat_abs total ≤ w → nat_abs (total_after total (take k updates)) ≤ w + sum_by size updates
 light_after updates total w zero light = omega (arith, light)
 light_after [] total w (suc k) light = omega (arith, light)
 light_after (u ∷ updates) total w (suc k) light =

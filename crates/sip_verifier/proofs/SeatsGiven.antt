@@ -26,12 +26,12 @@ use Rattle.sip_verifier.specs.Tasks.{CanBeAsked}
 
 -- the running numbers of zeros stand for the stream of no update
 module _ (depth : ℕ) (block : List ℕ) (size : length block ≡ depth) where
-  root_of_none : (value : ℕ) (side : Side) → RootStandsFor m61_modulus block value (replicate (2 ^ length block) (pos 0))
+  pub root_of_none : (value : ℕ) (side : Side) → RootStandsFor m61_modulus block value (replicate (2 ^ length block) (pos 0))
       → RootStandsFor m61_modulus block value (vector depth [] side)
   root_of_none value side stands = rw (vector-nil depth side)
       (subst (λ n. RootStandsFor m61_modulus block value (replicate (2 ^ n) (pos 0))) size stands)
 
-  point_of_none : (value : ℕ) (side : Side) → PointStandsFor m61_modulus block value (replicate (2 ^ length block) (pos 0))
+  pub point_of_none : (value : ℕ) (side : Side) → PointStandsFor m61_modulus block value (replicate (2 ^ length block) (pos 0))
       → PointStandsFor m61_modulus block value (vector depth [] side)
   point_of_none value side stands = rw (vector-nil depth side)
       (subst (λ n. PointStandsFor m61_modulus block value (replicate (2 ^ n) (pos 0))) size stands)
@@ -67,7 +67,7 @@ module _ (depth : ℕ) (block : List ℕ) (size : length block ≡ depth) where
   new_points (Share side num den) first second kept one other = absurd cc
   new_points (Above side least) first second kept one other = absurd cc
 
-  aug_root_of_none : (hash : ℕ) (total : ℤ) (side : Side)
+  pub aug_root_of_none : (hash : ℕ) (total : ℤ) (side : Side)
       → AugRootStandsFor m61_modulus block hash total (replicate (2 ^ length block) (pos 0))
       → AugRootStandsFor m61_modulus block hash total (vector depth [] side)
   aug_root_of_none hash total side stands = rw (vector-nil depth side)
@@ -101,18 +101,18 @@ asked-can depth query can = and_from _ _ can.0 (fits-does depth query can.1)
 
 -- ---- blocks
 
-pieces-next : {X : Type 0} (k n : ℕ) (xs : List X) → pieces k (suc n) xs ≡ pieces k n xs ++ take k (drop (n * k) xs) ∷ []
+pub pieces-next : {X : Type 0} (k n : ℕ) (xs : List X) → pieces k (suc n) xs ≡ pieces k n xs ++ take k (drop (n * k) xs) ∷ []
 pieces-next k zero xs = let none : 0 ≡ zero * k = omega arith in ap (λ m. take k (drop m xs) ∷ []) none
 pieces-next k (suc n) xs =
     let more = suc-mul n k in
     let count : k + n * k ≡ suc n * k = omega arith in
     ap (λ l. take k xs ∷ l) (pieces-next k n (drop k xs)) ∙ ap (λ l. take k xs ∷ (pieces k n (drop k xs) ++ take k l ∷ [])) (drop-drop (n * k) k xs ∙ ap (λ m. drop m xs) count)
 
-pieces-more : {X : Type 0} (k n : ℕ) (xs : List X) → pieces k (n + 1) xs ≡ pieces k n xs ++ take k (drop (n * k) xs) ∷ []
+pub pieces-more : {X : Type 0} (k n : ℕ) (xs : List X) → pieces k (n + 1) xs ≡ pieces k n xs ++ take k (drop (n * k) xs) ∷ []
 pieces-more k n xs = let next : n + 1 ≡ suc n = omega arith in ap (λ m. pieces k m xs) next ∙ pieces-next k n xs
 
 -- there are as many as there are queries
-cut-whole : {X : Type 0} (k n : ℕ) (xs : List X) → 1 ≤ k → length xs ≡ k * n → cut k xs ≡ pieces k n xs
+pub cut-whole : {X : Type 0} (k n : ℕ) (xs : List X) → 1 ≤ k → length xs ≡ k * n → cut k xs ≡ pieces k n xs
 cut-whole k n xs some size =
     let part : (k - 1) / k ≡ 0 = div-eq_of_lt (omega arith) in
     let count : (length xs + (k - 1)) / k ≡ n = ap (λ m. (m + (k - 1)) / k) size ∙ mul-add-div (omega arith) n (k - 1) ∙ (let whole = part in omega arith) in

@@ -14,7 +14,6 @@ use Rattle.sip_verifier.specs.declared.status.Status.{Status}
 use Rattle.sip_verifier.specs.declared.status.Status.TheVariants as statuses
 use Rattle.sip_verifier.specs.Exchanges.{Exchange}
 use Rattle.sip_verifier.specs.Reports.{rejection}
-use Rattle.sip_verifier.specs.Statuses.{IsListed}
 use Rattle.sip_verifier.specs.runs.CountClause.{Counting, Written, questions_written, lines_written, IsRejection, AreInTalk, CountClause}
 use Rattle.sip_verifier.specs.runs.Manners.{Asking, Question}
 use Rattle.sip_verifier.specs.runs.Runs.{Run, manner, updates, Done, questions_of, lines, Reached}
@@ -128,24 +127,24 @@ module _ {Q A : Type 0} (asking : Asking Q A) (counting : Counting Q A) (r : Run
   unjudged : UnjudgedWritten asking r x → Reported
   unjudged (end, report) = whole end.done (inr (Some end.last, end.ended, end.reached)) report
 
-  pub reported : (status : Status) → VerdictClause asking r x status → IsListed status → Reported
-  reported statuses.Accepted v is = whole v.done (were_in_talk v.done (inr (outs (manner asking r x).farewell, v.reached))) v.report
-  reported (statuses.Rejected query round reason) v is = one_rejected query round reason v
-  reported (statuses.Usage word) v is = nothing v
-  reported (statuses.BadStream at why) v is = nothing v
-  reported statuses.BadSeed v is = nothing v
-  reported statuses.SeedSpent v is = nothing v
-  reported (statuses.TooWide query) v is = nothing v
-  reported (statuses.TooHigh query) v is = nothing v
-  reported (statuses.ReadFault port) v is = nothing v
-  reported (statuses.WriteFault ports.Report) v is = cut_in_line v v.verdict
-  reported (statuses.WriteFault ports.Keep) (inl none) is = nothing none.1
-  reported (statuses.WriteFault ports.Keep) (inr v) is = unjudged v
-  reported statuses.PeerFault v is = whole v.done (were_in_talk v.done v.reached) v.report
-  reported statuses.OutOfMemory (inl v) is = whole v.done (were_in_talk v.done v.reached) v.report
-  reported statuses.OutOfMemory (inr (inl v)) is = cut_in_line v v.verdict
-  reported statuses.OutOfMemory (inr (inr v)) is = unjudged v
-  reported _ v is = absurd v
+  pub reported : (status : Status) → VerdictClause asking r x status → Reported
+  reported statuses.Accepted v = whole v.done (were_in_talk v.done (inr (outs (manner asking r x).farewell, v.reached))) v.report
+  reported (statuses.Rejected query round reason) v = one_rejected query round reason v
+  reported (statuses.Usage word) v = nothing v
+  reported (statuses.BadStream at why) v = nothing v
+  reported statuses.BadSeed v = nothing v
+  reported statuses.SeedSpent v = nothing v
+  reported (statuses.TooWide query) v = nothing v
+  reported (statuses.TooHigh query) v = nothing v
+  reported (statuses.ReadFault port) v = nothing v
+  reported (statuses.WriteFault ports.Report) v = cut_in_line v v.verdict
+  reported (statuses.WriteFault ports.Keep) (inl none) = nothing none.1
+  reported (statuses.WriteFault ports.Keep) (inr v) = unjudged v
+  reported statuses.PeerFault v = whole v.done (were_in_talk v.done v.reached) v.report
+  reported statuses.OutOfMemory (inl v) = whole v.done (were_in_talk v.done v.reached) v.report
+  reported statuses.OutOfMemory (inr (inl v)) = cut_in_line v v.verdict
+  reported statuses.OutOfMemory (inr (inr v)) = unjudged v
+  reported _ v = absurd v
 
-  pub report_counts : (status : Status) → VerdictClause asking r x status → IsListed status → CountClause asking counting r x
-  report_counts status v is = counts_of (reported status v is)
+  pub report_counts : (status : Status) → VerdictClause asking r x status → CountClause asking counting r x
+  report_counts status v = counts_of (reported status v)

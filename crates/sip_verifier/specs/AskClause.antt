@@ -9,7 +9,7 @@ use Rattle.sip_verifier.specs.declared.session.SessionFault.TheVariants as fault
 use Rattle.sip_verifier.specs.declared.session.Verdict.{Verdict}
 use Rattle.sip_verifier.specs.declared.session.Verdict.TheVariants as verdicts
 use Rattle.sip_verifier.specs.runs.Askers.{KeepsAsked}
-use Rattle.sip_verifier.specs.Snapshots.{SinkState}
+use Rattle.sip_verifier.specs.Snapshots.{Span}
 
 -- what came of the query, by what a session answers: a rejection stands beside the faults
 abbrev pub came_of : Result Verdict SessionFault → Result Verdict Unanswered
@@ -18,14 +18,14 @@ came_of (Ok (verdicts.Number n)) = Ok (verdicts.Number n)
 came_of (Ok verdicts.Pairs) = Ok verdicts.Pairs
 came_of (Err fault) = Err (Fault fault)
 
--- The link is in the state `old` before the call and `new` after it, the record of the talk in
--- `before` and `now`. What came of the query is an answer, a rejection or a fault.
-pub record AskClause {G : Type 0} (version : Version) (old new before now : SinkState)
+-- What came of the query is an answer, a rejection or a fault.
+pub record AskClause {G : Type 0} (version : Version) (link keep : Span)
     (asked : Result G Unanswered) : Type 0 where
   -- what the record got of what was received
-  pub kept : KeepsAsked old.told new.told before.told now.told version asked
+  pub kept : KeepsAsked link.before.told link.after.told keep.before.told keep.after.told version
+      asked
   -- a fault of a port comes only where its own count rose, want of memory where one of theirs did
-  pub cause : asked ≡ Err (Fault faults.PeerFault) → Rose old.faults new.faults
-  pub keep_cause : asked ≡ Err (Fault faults.KeepFault) → Rose before.faults now.faults
+  pub cause : asked ≡ Err (Fault faults.PeerFault) → Rose link.before.faults link.after.faults
+  pub keep_cause : asked ≡ Err (Fault faults.KeepFault) → Rose keep.before.faults keep.after.faults
   pub memory : asked ≡ Err (Fault faults.OutOfMemory)
-      → Rose old.wants new.wants ⊎ Rose before.wants now.wants
+      → Rose link.before.wants link.after.wants ⊎ Rose keep.before.wants keep.after.wants

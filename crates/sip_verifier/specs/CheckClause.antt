@@ -6,18 +6,17 @@ use Rattle.sip_wire.specs.declared.version.Version.{Version}
 use Rattle.sip_verifier.specs.declared.status.Status.{Status}
 use Rattle.sip_verifier.specs.declared.status.Status.TheVariants.{OutOfMemory}
 use Rattle.sip_verifier.specs.Keeping.{KeepsTalk}
-use Rattle.sip_verifier.specs.Snapshots.{SinkState, counts}
+use Rattle.sip_verifier.specs.Snapshots.{Span, counts}
 use Rattle.sip_verifier.specs.Statuses.{Stops, stops_asking}
 
--- The link is in the state `old` before the call and `new` after it, the report `blank` and `full`,
--- the record of the talk `before` and `now`.
-pub record CheckClause (version : Version) (old new blank full before now : SinkState)
+pub record CheckClause (version : Version) (peer report keep : Span)
     (result : Result (Unit {0}) Status) : Type 0 where
   -- what the record got of what was received
-  pub kept : KeepsTalk old.told new.told before.told now.told version result
+  pub kept : KeepsTalk peer.before.told peer.after.told keep.before.told keep.after.told version
+      result
   -- a fault of a port comes only where its own count rose, want of memory where one of theirs did
   pub fault : (first firsts second seconds : ℕ) → Stops stops_asking
-      (counts first second old.faults blank.faults before.faults)
-      (counts firsts seconds new.faults full.faults now.faults) result
-  pub memory : result ≡ Err OutOfMemory
-      → Rose old.wants new.wants ⊎ Rose blank.wants full.wants ⊎ Rose before.wants now.wants
+      (counts first second peer.before.faults report.before.faults keep.before.faults)
+      (counts firsts seconds peer.after.faults report.after.faults keep.after.faults) result
+  pub memory : result ≡ Err OutOfMemory → Rose peer.before.wants peer.after.wants
+      ⊎ Rose report.before.wants report.after.wants ⊎ Rose keep.before.wants keep.after.wants

@@ -48,6 +48,19 @@ pub record SinkState : Type 0 where
 abbrev pub sink : {P : Type 0} → (P → Option (List TalkEvent)) → (P → ℕ) → (P → ℕ) → P → SinkState
 sink told faults wants it = record { told = told it; faults = faults it; wants = wants it }
 
+-- a link or a sink at the moment before a call and at the moment after it
+pub record Span : Type 0 where
+  pub before : SinkState
+  pub after : SinkState
+
+abbrev pub between : SinkState → SinkState → Span
+between before after = record { before = before; after = after }
+
+-- that of one, by what its trait says of it
+abbrev pub span : {P : Type 0} → (P → Option (List TalkEvent)) → (P → ℕ) → (P → ℕ) → P → P → Span
+span told faults wants before after =
+    between (sink told faults wants before) (sink told faults wants after)
+
 -- The bytes that the stream and the seed have to give, the events so far on the link, on the report
 -- and on the record of the talk, and how often these ports have failed.
 pub record Snapshot : Type 0 where

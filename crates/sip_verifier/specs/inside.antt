@@ -4,6 +4,7 @@ pub mod Raising
 pub mod Sending
 pub mod Judging
 pub mod Protocols
+pub mod AskedOver
 pub mod Ending
 pub mod Passing
 pub mod Opening

@@ -55,7 +55,7 @@ pub trait Asker {
     ghost use Rattle.sip_verifier.specs.AskClause.{AskClause};
     ghost use Rattle.sip_verifier.specs.runs.Askers.{Asks, IsFirst, Remaining, behind, has_failed};
     ghost use Rattle.sip_verifier.specs.runs.Manners.{Asking, Question};
-    ghost use Rattle.sip_verifier.specs.Snapshots.{sink};
+    ghost use Rattle.sip_verifier.specs.Snapshots.{span};
 
     /// An answer that was accepted, so that its line can be written.
     type Given: Drop;
@@ -106,9 +106,8 @@ pub trait Asker {
             → stands stream self.new }
         ensures remaining { remaining self.new ≡ behind (has_failed result) (remaining self.old) }
         ensures keeps { AskClause (remaining self.old).version
-            (sink L.talk L.faults L.wants link.old) (sink L.talk L.faults L.wants link.new)
-            (sink C.talk C.faults C.wants keep.old) (sink C.talk C.faults C.wants keep.new)
-            result }
+            (span L.talk L.faults L.wants link.old link.new)
+            (span C.talk C.faults C.wants keep.old keep.new) result }
         ensures link { Lasts L.faults L.wants L.is_sure link.old link.new }
         ensures keep { Lasts C.faults C.wants C.is_sure keep.old keep.new };
 

@@ -18,7 +18,7 @@ ghost use Rattle.sip_verifier.specs.inside.Opening.{IsOpened, IsUnopened};
 ghost use Rattle.sip_verifier.specs.Inquiries.{Inquiry};
 ghost use Rattle.sip_verifier.specs.Negatives.{NegativesClause, gathered_negatives};
 ghost use Rattle.sip_verifier.specs.Negatives.{heavy_negatives, no_negatives};
-ghost use Rattle.sip_verifier.specs.Snapshots.{Counts, PortState, counts, port, sink, snapshot};
+ghost use Rattle.sip_verifier.specs.Snapshots.{Counts, PortState, counts, port, snapshot, span};
 ghost use Rattle.sip_verifier.specs.QuerySeats.{StandsFor};
 ghost use Rattle.sip_verifier.specs.RunClause.{RunClause};
 ghost use Rattle.sip_verifier.specs.Seats.{AreSeats, Seating};
@@ -27,7 +27,7 @@ ghost use Rattle.sip_verifier.specs.Tasks.{CanBeDone, version_of};
 ghost use Rattle.sip_verifier.specs.Weights.{AreWeights};
 
 use crate::concluding::conclude_run;
-use crate::ending::status_of_start;
+use crate::ending::{status_of, status_of_start};
 use crate::gathering::gather;
 use crate::{Seats, Session, Status, Task, Weights};
 use sip_ports::{Link, Sink, Source};
@@ -88,10 +88,9 @@ pub fn conclude_session<L: Link, K: Sink, C: Sink>(
         → All (StandsFor session.old.depth stream) session.old.left
         → Reports (K.talk report.old) (K.talk report.new) }
     ensures keeps { CheckClause session.old.version
-        (sink L.talk L.faults L.wants peer.old) (sink L.talk L.faults L.wants peer.new)
-        (sink K.talk K.faults K.wants report.old) (sink K.talk K.faults K.wants report.new)
-        (sink C.talk C.faults C.wants keep.old) (sink C.talk C.faults C.wants keep.new)
-        result }
+        (span L.talk L.faults L.wants peer.old peer.new)
+        (span K.talk K.faults K.wants report.old report.new)
+        (span C.talk C.faults C.wants keep.old keep.new) result }
     ensures peer { Lasts L.faults L.wants L.is_sure peer.old peer.new }
     ensures report { Lasts K.faults K.wants K.is_sure report.old report.new }
     ensures keep { Lasts C.faults C.wants C.is_sure keep.old keep.new }
@@ -156,44 +155,6 @@ fn gather_session<A: Source, B: Source, L: Link, C: Sink>(
     open_session(alloc, task.version(), &mut gathered)
 }
 
-/// All that a run does, up to its first stop.
-fn check_steps<A: Source, B: Source, L: Link, K: Sink, C: Sink>(
-    alloc: Global,
-    task: &Task,
-    first: &mut A,
-    second: &mut B,
-    peer: &mut L,
-    report: &mut K,
-    keep: &mut C,
-    negatives: &mut Negatives,
-) -> Result<(), Status>
-    requires { CanBeDone task.now }
-    ensures keeps { RunClause task.now
-        (snapshot (port A.left A.faults first.old) (port B.left B.faults second.old)
-        (port L.talk L.faults peer.old) (port K.talk K.faults report.old)
-        (port C.talk C.faults keep.old))
-        (snapshot (port A.left A.faults first.new) (port B.left B.faults second.new)
-        (port L.talk L.faults peer.new) (port K.talk K.faults report.new)
-        (port C.talk C.faults keep.new))
-        (status_of result) }
-    ensures negatives { (bytes seed : List ℕ)
-        → A.left first.old ≡ Some bytes → B.left second.old ≡ Some seed
-        → NegativesClause task.now bytes (status_of result) negatives.new }
-    ensures first { Lasts A.faults A.wants A.is_sure first.old first.new }
-    ensures seed { TakesAtMost 32 (B.left second.old) (B.left second.new) }
-    ensures second { Lasts B.faults B.wants B.is_sure second.old second.new }
-    ensures peer { Lasts L.faults L.wants L.is_sure peer.old peer.new }
-    ensures report { Lasts K.faults K.wants K.is_sure report.old report.new }
-    ensures keep { Lasts C.faults C.wants C.is_sure keep.old keep.new }
-{
-    let levels = task.depth.get();
-    prove!(levels >= 1 && levels <= Depth::MOST);
-    let asked = task.queries.len();
-    prove!(asked <= MOST_QUERIES);
-    let mut session = gather_session(alloc, task, first, second, peer, keep, negatives)?;
-    conclude_session(&mut *session, peer, report, keep)
-}
-
 /// Does a task: draws the challenges from `second`, reads the stream of `first` and sends it over
 /// `peer`, asks each query, judges the replies and writes a line for each to `report`.
 ///
@@ -237,8 +198,13 @@ pub fn check_stream<A: Source, B: Source, L: Link, K: Sink, C: Sink>(
     ensures report { Lasts K.faults K.wants K.is_sure report.old report.new }
     ensures keep { Lasts C.faults C.wants C.is_sure keep.old keep.new }
 {
-    match check_steps(alloc, task, first, second, peer, report, keep, negatives) {
-        Ok(()) => Status::Accepted,
-        Err(status) => status,
-    }
+    let levels = task.depth.get();
+    prove!(levels >= 1 && levels <= Depth::MOST);
+    let asked = task.queries.len();
+    prove!(asked <= MOST_QUERIES);
+    let mut session = match gather_session(alloc, task, first, second, peer, keep, negatives) {
+        Ok(session) => session,
+        Err(status) => return status,
+    };
+    status_of(conclude_session(&mut *session, peer, report, keep))
 }

@@ -6,11 +6,10 @@ ghost use Rattle.sip_vector.specs.declared.update.Update.{Update as AnyUpdate};
 ghost use Rattle.sip_wire.specs.Table.{most_queries};
 ghost use Rattle.sip_verifier.specs.CheckClause.{CheckClause};
 ghost use Rattle.sip_verifier.specs.Exchanges.{Exchange};
-ghost use Rattle.sip_verifier.specs.Snapshots.{Counts, sink};
-ghost use Rattle.sip_verifier.specs.runs.Askers.{GoesBehind, IsFirst, behind, blocks_in};
-ghost use Rattle.sip_verifier.specs.runs.Askers.{queries_in};
+ghost use Rattle.sip_verifier.specs.Snapshots.{Counts, span};
+ghost use Rattle.sip_verifier.specs.runs.Askers.{GoesBehind, IsFirst, behind};
 ghost use Rattle.sip_verifier.specs.runs.Concluding.{Ended, Reports, status_of};
-ghost use Rattle.sip_verifier.specs.runs.Progress.{Checks, ChecksAll};
+ghost use Rattle.sip_verifier.specs.runs.Progress.{Checks};
 ghost use Rattle.sip_verifier.specs.runs.Runs.{Run, updates};
 ghost use Rattle.sip_verifier.specs.Statuses.{FaultClause};
 
@@ -30,6 +29,10 @@ fn check_next<Q: Asker, L: Link, K: Sink, C: Sink>(
 ) -> Result<(), Status>
     requires left { 0 < length (Q.remaining asker.old).left }
     requires live { (Q.remaining asker.old).spent ≡ false }
+    ensures keeps { CheckClause (Q.remaining asker.old).version
+        (span L.talk L.faults L.wants peer.old peer.new)
+        (span K.talk K.faults K.wants report.old report.new)
+        (span C.talk C.faults C.wants keep.old keep.new) result }
     ensures checks { (stream : List AnyUpdate) (ask : Q.Query × List ℕ)
         → Q.stands stream asker.old → IsFirst (Q.remaining asker.old) ask
         → Checks
@@ -40,11 +43,6 @@ fn check_next<Q: Asker, L: Link, K: Sink, C: Sink>(
         → Q.stands stream asker.new }
     ensures remaining { OnOk result
         (Q.remaining asker.new ≡ behind false (Q.remaining asker.old)) }
-    ensures keeps { CheckClause (Q.remaining asker.old).version
-        (sink L.talk L.faults L.wants peer.old) (sink L.talk L.faults L.wants peer.new)
-        (sink K.talk K.faults K.wants report.old) (sink K.talk K.faults K.wants report.new)
-        (sink C.talk C.faults C.wants keep.old) (sink C.talk C.faults C.wants keep.new)
-        result }
     ensures peer { Lasts L.faults L.wants L.is_sure peer.old peer.new }
     ensures report { Lasts K.faults K.wants K.is_sure report.old report.new }
     ensures keep { Lasts C.faults C.wants C.is_sure keep.old keep.new }
@@ -61,40 +59,6 @@ fn check_next<Q: Asker, L: Link, K: Sink, C: Sink>(
         }
         Err(Unanswered::Fault(fault)) => Err(status_of_fault(fault)),
     }
-}
-
-/// Asks all queries in order and writes the line of each verdict, up to the first stop.
-#[inline(never)]
-fn check_all<Q: Asker, L: Link, K: Sink, C: Sink>(
-    asker: &mut Q,
-    peer: &mut L,
-    report: &mut K,
-    keep: &mut C,
-) -> Result<(), Status>
-    requires most { length (Q.remaining asker.old).left ≤ most_queries }
-    requires live { (Q.remaining asker.old).spent ≡ false }
-    ensures checks { (stream : List AnyUpdate) → Q.stands stream asker.old → ChecksAll
-        (Q.asking (Q.remaining asker.old).version (Q.remaining asker.old).depth stream)
-        (queries_in (Q.remaining asker.old).left) (blocks_in (Q.remaining asker.old).left)
-        (L.talk peer.old) (L.talk peer.new) (K.talk report.old) (K.talk report.new) result }
-    ensures version { OnOk result
-        ((Q.remaining asker.new).version ≡ (Q.remaining asker.old).version) }
-    ensures depth { OnOk result
-        ((Q.remaining asker.new).depth ≡ (Q.remaining asker.old).depth) }
-    ensures keeps { CheckClause (Q.remaining asker.old).version
-        (sink L.talk L.faults L.wants peer.old) (sink L.talk L.faults L.wants peer.new)
-        (sink K.talk K.faults K.wants report.old) (sink K.talk K.faults K.wants report.new)
-        (sink C.talk C.faults C.wants keep.old) (sink C.talk C.faults C.wants keep.new)
-        result }
-    ensures peer { Lasts L.faults L.wants L.is_sure peer.old peer.new }
-    ensures report { Lasts K.faults K.wants K.is_sure report.old report.new }
-    ensures keep { Lasts C.faults C.wants C.is_sure keep.old keep.new }
-{
-    let count = asker.left() as u8;
-    for asked in 0..count {
-        check_next(asker, asked + 1, peer, report, keep)?;
-    }
-    Ok(())
 }
 
 /// Asks all queries of a run in order over a link to where its stream is kept, writes the line of
@@ -127,14 +91,16 @@ pub fn conclude_run<Q: Asker, L: Link, K: Sink, C: Sink>(
     ensures wrote { (stream : List AnyUpdate) → Q.stands stream asker.old
         → Reports (K.talk report.old) (K.talk report.new) }
     ensures keeps { CheckClause (Q.remaining asker.old).version
-        (sink L.talk L.faults L.wants peer.old) (sink L.talk L.faults L.wants peer.new)
-        (sink K.talk K.faults K.wants report.old) (sink K.talk K.faults K.wants report.new)
-        (sink C.talk C.faults C.wants keep.old) (sink C.talk C.faults C.wants keep.new)
-        result }
+        (span L.talk L.faults L.wants peer.old peer.new)
+        (span K.talk K.faults K.wants report.old report.new)
+        (span C.talk C.faults C.wants keep.old keep.new) result }
     ensures peer { Lasts L.faults L.wants L.is_sure peer.old peer.new }
     ensures report { Lasts K.faults K.wants K.is_sure report.old report.new }
     ensures keep { Lasts C.faults C.wants C.is_sure keep.old keep.new }
 {
-    check_all(asker, peer, report, keep)?;
+    let count = asker.left() as u8;
+    for asked in 0..count {
+        check_next(asker, asked + 1, peer, report, keep)?;
+    }
     on_link(asker.say_farewell(peer))
 }

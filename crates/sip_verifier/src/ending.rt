@@ -4,6 +4,7 @@ ghost use Rattle.std.specs.Prelude.{◌≡◌, MatchResult};
 ghost use Rattle.sip_ports.specs.declared.port.PortStop.{PortStop as AnyPortStop};
 ghost use Rattle.sip_verifier.specs.inside.Ending.{status_of_fault, status_of_keep, status_of_link};
 ghost use Rattle.sip_verifier.specs.inside.Ending.{status_of_report, status_of_start};
+ghost use Rattle.sip_verifier.specs.runs.Concluding.{status_of};
 
 use crate::session::{SessionFault, SessionStart};
 use crate::{Port, Status};
@@ -52,6 +53,16 @@ pub(crate) fn status_of_start(start: SessionStart) -> Status
     match start {
         SessionStart::TooWide { query } => Status::TooWide { query },
         SessionStart::OutOfMemory => Status::OutOfMemory,
+    }
+}
+
+/// The status of a run whose queries came to this.
+pub fn status_of(asked: Result<(), Status>) -> Status
+    ensures { result ≡ status_of asked }
+{
+    match asked {
+        Ok(()) => Status::Accepted,
+        Err(status) => status,
     }
 }
 

@@ -14,7 +14,7 @@ ghost use Rattle.sip_stream.specs.declared.fault.StreamFault.{StreamFault as Any
 ghost use Rattle.sip_verifier.specs.inside.Drawing.{Draws};
 ghost use Rattle.sip_verifier.specs.inside.Ending.{status_of_stream};
 ghost use Rattle.sip_verifier.specs.Feeding.{due_with};
-ghost use Rattle.sip_verifier.specs.inside.Passing.{CanBeTaken, TakesNext, left, weighed};
+ghost use Rattle.sip_verifier.specs.inside.Passing.{CanBeTaken, TakesNext, left};
 ghost use Rattle.sip_verifier.specs.QuerySeats.{HaveRoom};
 ghost use Rattle.sip_verifier.specs.Seats.{AreSeats};
 ghost use Rattle.std.specs.Result.{is_err};
@@ -24,7 +24,7 @@ ghost use Rattle.sip_verifier.specs.Gathering.{AreOf, PassesOn, legal};
 ghost use Rattle.sip_verifier.specs.Snapshots.{PortState, counts, port, snapshot};
 ghost use Rattle.sip_verifier.specs.Statuses.{Stops, stops_following, stops_gathering};
 ghost use Rattle.sip_verifier.specs.Tasks.{CanBeDone};
-ghost use Rattle.sip_verifier.specs.Weights.{AreWeights};
+ghost use Rattle.sip_verifier.specs.Weights.{AreWeights, none};
 
 use crate::ending::{on_keep, on_link};
 use crate::{Feed, Port, Seats, Status, Task, Weights};
@@ -164,38 +164,13 @@ pub fn follow<A: Source, K: Sink>(
     })
 }
 
-/// All steps of [`gather`]. The seats are left in `gathered`, as they are where the steps stop.
-fn gather_all<A: Source, B: Source, L: Link, C: Sink>(
-    task: &Task,
-    first: &mut A,
-    second: &mut B,
-    peer: &mut L,
-    keep: &mut C,
-    gathered: &mut Result<Seats, Status>,
-) -> Result<Weights, Status>
-    requires { CanBeDone task.now }
-    ensures keeps { (report reports : PortState AnyEvent) → GatherClause task.now
-        (snapshot (port A.left A.faults first.old) (port B.left B.faults second.old)
-        (port L.talk L.faults peer.old) report (port C.talk C.faults keep.old))
-        (snapshot (port A.left A.faults first.new) (port B.left B.faults second.new)
-        (port L.talk L.faults peer.new) reports (port C.talk C.faults keep.new))
-        (counts (A.wants first.old) (B.wants second.old) (L.wants peer.old) 0 (C.wants keep.old))
-        (counts (A.wants first.new) (B.wants second.new) (L.wants peer.new) 0 (C.wants keep.new))
-        (left gathered.new result) (weighed result) }
-    ensures first { Lasts A.faults A.wants A.is_sure first.old first.new }
-    ensures second { Lasts B.faults B.wants B.is_sure second.old second.new }
-    ensures peer { Lasts L.faults L.wants L.is_sure peer.old peer.new }
-    ensures keep { Lasts C.faults C.wants C.is_sure keep.old keep.new }
+// Leaves why nothing was gathered in place of the seats. There are no weights then.
+fn stopped(gathered: &mut Result<Seats, Status>, status: Status) -> Weights
+    ensures place { gathered.new ≡ Err status }
+    ensures weights { result ≡ none }
 {
-    draw(task, second, gathered)?;
-    match gathered {
-        Ok(seats) => {
-            on_keep(seats.put_transcript_head(keep))?;
-            let weights = follow(task, seats, first, peer)?;
-            Ok(weights)
-        }
-        Err(status) => Err(*status),
-    }
+    *gathered = Err(status);
+    Weights::default()
 }
 
 /// Draws the challenges from 32 bytes of `second`, writes the head of the run's transcript to
@@ -240,11 +215,20 @@ pub fn gather<A: Source, B: Source, L: Link, C: Sink>(
     ensures peer { Lasts L.faults L.wants L.is_sure peer.old peer.new }
     ensures keep { Lasts C.faults C.wants C.is_sure keep.old keep.new }
 {
-    match gather_all(task, first, second, peer, keep, gathered) {
+    match draw(task, second, gathered) {
+        Ok(()) => {}
+        Err(status) => return stopped(gathered, status),
+    }
+    let seats = match gathered {
+        Ok(seats) => seats,
+        Err(_) => return Weights::default(),
+    };
+    match on_keep(seats.put_transcript_head(keep)) {
+        Ok(()) => {}
+        Err(status) => return stopped(gathered, status),
+    }
+    match follow(task, seats, first, peer) {
         Ok(weights) => weights,
-        Err(status) => {
-            *gathered = Err(status);
-            Weights::default()
-        }
+        Err(status) => stopped(gathered, status),
     }
 }

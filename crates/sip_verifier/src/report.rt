@@ -191,6 +191,19 @@ fn put_reason(gathered: &mut ArrayVec<u8, ROOM>, reason: Reason)
     }
 }
 
+// Adds in which round replies have which fault, and a line feed.
+fn put_fault(gathered: &mut ArrayVec<u8, ROOM>, round: u8, reason: Reason)
+    requires { array_vec_len gathered.old + 61 ≤ ROOM }
+    ensures { gathered.new.items ≡ gathered.old.items ++ codes " round " ++ decimal round
+        ++ codes " " ++ reason_name reason ++ 10 ∷ [] }
+{
+    put(gathered, b" round ");
+    put_number(gathered, round as u64);
+    put(gathered, b" ");
+    put_reason(gathered, reason);
+    put(gathered, b"\n");
+}
+
 // The line of a rejection.
 fn rejection_line(query: u8, round: u8, reason: Reason) -> ArrayVec<u8, ROOM>
     ensures { result.items ≡ rejection query round reason }
@@ -198,11 +211,7 @@ fn rejection_line(query: u8, round: u8, reason: Reason) -> ArrayVec<u8, ROOM>
     let mut gathered = ArrayVec::new();
     put(&mut gathered, b"rejected query ");
     put_number(&mut gathered, query as u64);
-    put(&mut gathered, b" round ");
-    put_number(&mut gathered, round as u64);
-    put(&mut gathered, b" ");
-    put_reason(&mut gathered, reason);
-    put(&mut gathered, b"\n");
+    put_fault(&mut gathered, round, reason);
     gathered
 }
 
@@ -234,11 +243,7 @@ fn dropped_line(helper: u8, query: u8, round: u8, reason: Reason) -> ArrayVec<u8
     put_number(&mut gathered, helper as u64);
     put(&mut gathered, b" query ");
     put_number(&mut gathered, query as u64);
-    put(&mut gathered, b" round ");
-    put_number(&mut gathered, round as u64);
-    put(&mut gathered, b" ");
-    put_reason(&mut gathered, reason);
-    put(&mut gathered, b"\n");
+    put_fault(&mut gathered, round, reason);
     gathered
 }
 

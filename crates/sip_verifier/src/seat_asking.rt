@@ -7,11 +7,11 @@ ghost use Rattle.sip_field.specs.Moduli.{m61_modulus};
 ghost use Rattle.sip_ports.specs.Ports.{Lasts};
 ghost use Rattle.sip_vector.specs.declared.update.Update.{Update as AnyUpdate};
 ghost use Rattle.sip_vector.specs.Streams.{IsLegal};
-ghost use Rattle.sip_sums.specs.AcceptsSum.{product_at};
-ghost use Rattle.sip_sums.specs.Questions.{Lists, lists_of};
+ghost use Rattle.sip_sums.specs.Protocol.{sum_asked, sum_protocol};
 ghost use Rattle.sip_wire.specs.Versions.{Speaks};
 ghost use Rattle.sip_verifier.specs.AskClause.{AskClause, came_of};
 ghost use Rattle.sip_verifier.specs.Asking.{AnswersCount, Asks};
+ghost use Rattle.sip_verifier.specs.inside.AskedOver.{AsksOver};
 ghost use Rattle.sip_verifier.specs.inside.Judging.{found_in, verdict_of};
 ghost use Rattle.sip_verifier.specs.ReplyBound.{ReplyBound};
 ghost use Rattle.sip_verifier.specs.Rooms.{most_nodes, most_places};
@@ -19,7 +19,7 @@ ghost use Rattle.sip_verifier.specs.inside.Protocols.{IsProtocol};
 ghost use Rattle.sip_heavy.specs.Protocol.{count_of, heavy_asked, heavy_protocol};
 ghost use Rattle.std.specs.Option.{option_map};
 ghost use Rattle.sip_verifier.specs.QuerySeats.{StandsFor, is_seat};
-ghost use Rattle.sip_verifier.specs.Snapshots.{sink};
+ghost use Rattle.sip_verifier.specs.Snapshots.{span};
 
 use crate::running::Running;
 use crate::seat::QuerySeat;
@@ -76,9 +76,8 @@ pub fn ask_seat<L: Link, C: Sink>(
     ensures room { vec_capacity entries.old ≤ vec_capacity entries.new }
     ensures space { option_map (λ s. s.nodes) space.new ≡ option_map (λ s. s.nodes) space.old }
     ensures keeps { AskClause version
-        (sink L.talk L.faults L.wants link.old) (sink L.talk L.faults L.wants link.new)
-        (sink C.talk C.faults C.wants keep.old) (sink C.talk C.faults C.wants keep.new)
-        (came_of result) }
+        (span L.talk L.faults L.wants link.old link.new)
+        (span C.talk C.faults C.wants keep.old keep.new) (came_of result) }
     ensures link { Lasts L.faults L.wants L.is_sure link.old link.new }
     ensures keep { Lasts C.faults C.wants C.is_sure keep.old keep.new }
 {
@@ -107,16 +106,11 @@ pub(crate) fn ask_by_kind<L: Link, C: Sink>(
     requires room { most_places seat.now.query seat.now.running ≤ length entries.old }
     requires space { IsSomeAnd space.old
         (λ s. most_nodes seat.now.query seat.now.running ≤ s.nodes) }
-    ensures asks { (depth : ℕ) (stream : List AnyUpdate) → StandsFor depth stream seat.now
-        → Asks version depth stream seat.now.query seat.now.block
-        (L.talk link.old) (L.talk link.new)
-        (take (found_in (length entries.new) result) entries.new) (verdict_of result) }
-    ensures places { length entries.new ≡ length entries.old }
     ensures space { option_map (λ s. s.nodes) space.new ≡ option_map (λ s. s.nodes) space.old }
-    ensures keeps { AskClause version
-        (sink L.talk L.faults L.wants link.old) (sink L.talk L.faults L.wants link.new)
-        (sink C.talk C.faults C.wants keep.old) (sink C.talk C.faults C.wants keep.new)
-        (came_of (verdict_of result)) }
+    ensures over { AsksOver version seat.now.query seat.now.block
+        (λ depth stream. StandsFor depth stream seat.now) entries.old entries.new result
+        (span L.talk L.faults L.wants link.old link.new)
+        (span C.talk C.faults C.wants keep.old keep.new) }
     ensures link { Lasts L.faults L.wants L.is_sure link.old link.new }
     ensures keep { Lasts C.faults C.wants C.is_sure keep.old keep.new }
 {
@@ -142,13 +136,13 @@ pub(crate) fn ask_by_kind<L: Link, C: Sink>(
         }
         (Query::Heavy { at_least, .. }, Running::AugRoot(root)) => {
             ask_heavy(
-                version, seat, root, *at_least, entries, frame, space, link, keep,
+                version, seat, root, *at_least, space, entries, frame, link, keep,
             )
         }
         (Query::Share { num, den, .. }, Running::AugRoot(root)) => {
             let at_least = share_of(root.total(), *num, *den);
             ask_heavy(
-                version, seat, root, at_least, entries, frame, space, link, keep,
+                version, seat, root, at_least, space, entries, frame, link, keep,
             )
         }
         _ => unreachable!(),
@@ -161,31 +155,25 @@ fn ask_heavy<L: Link, C: Sink>(
     seat: &QuerySeat,
     root: &AugRoot<M61, CAP>,
     at_least: u64,
+    space: &mut Option<HeavySpace>,
     entries: &mut [Entry],
     frame: &mut Frame,
-    space: &mut Option<HeavySpace>,
     link: &mut L,
     keep: &mut C,
 ) -> Result<Said, AskStop>
+    requires least { 1 ≤ at_least }
     requires seat { IsTrue (is_seat (length seat.now.block) seat.now) }
     requires speaks { Speaks version (length seat.now.block) seat.now.query }
-    requires least { 1 ≤ at_least }
     requires room { 2 * (count_of root.now.total / at_least) ≤ length entries.old }
     requires space { IsSomeAnd space.old
         (λ s. 2 * (count_of root.now.total / at_least) ≤ s.nodes) }
-    ensures asks { (depth : ℕ) (stream : List AnyUpdate)
-        → IsProtocol version depth stream seat.now.query root.now.seat (heavy_protocol
-        (heavy_asked version m61_modulus root.now.hash root.now.total (length root.now.seat)
-        at_least))
-        → Asks version depth stream seat.now.query root.now.seat
-        (L.talk link.old) (L.talk link.new)
-        (take (found_in (length entries.new) result) entries.new) (verdict_of result) }
-    ensures places { length entries.new ≡ length entries.old }
     ensures space { option_map (λ s. s.nodes) space.new ≡ option_map (λ s. s.nodes) space.old }
-    ensures keeps { AskClause version
-        (sink L.talk L.faults L.wants link.old) (sink L.talk L.faults L.wants link.new)
-        (sink C.talk C.faults C.wants keep.old) (sink C.talk C.faults C.wants keep.new)
-        (came_of (verdict_of result)) }
+    ensures over { AsksOver version seat.now.query root.now.seat
+        (λ depth stream. IsProtocol version depth stream seat.now.query root.now.seat
+        (heavy_protocol (heavy_asked version m61_modulus root.now.hash root.now.total
+        (length root.now.seat) at_least))) entries.old entries.new result
+        (span L.talk L.faults L.wants link.old link.new)
+        (span C.talk C.faults C.wants keep.old keep.new) }
     ensures link { Lasts L.faults L.wants L.is_sure link.old link.new }
     ensures keep { Lasts C.faults C.wants C.is_sure keep.old keep.new }
 {
@@ -212,17 +200,12 @@ fn ask_sum<L: Link, C: Sink>(
 ) -> Result<Said, AskStop>
     requires seat { IsTrue (is_seat (length seat.now.block) seat.now) }
     requires speaks { Speaks version (length seat.now.block) seat.now.query }
-    ensures asks { (depth : ℕ) (stream : List AnyUpdate) (l : Lists)
-        → lists_of depth stream seat.now.query ≡ Some l
-        → m61_number product ≡ product_at m61_modulus l.first l.second seat.now.block
-        → Asks version depth stream seat.now.query seat.now.block
-        (L.talk link.old) (L.talk link.new)
-        (take (found_in (length entries.new) result) entries.new) (verdict_of result) }
-    ensures places { length entries.new ≡ length entries.old }
-    ensures keeps { AskClause version
-        (sink L.talk L.faults L.wants link.old) (sink L.talk L.faults L.wants link.new)
-        (sink C.talk C.faults C.wants keep.old) (sink C.talk C.faults C.wants keep.new)
-        (came_of (verdict_of result)) }
+    ensures over { AsksOver version seat.now.query seat.now.block
+        (λ depth stream. IsProtocol version depth stream seat.now.query seat.now.block
+        (sum_protocol (sum_asked version m61_modulus (m61_number product))))
+        entries.old entries.new result
+        (span L.talk L.faults L.wants link.old link.new)
+        (span C.talk C.faults C.wants keep.old keep.new) }
     ensures link { Lasts L.faults L.wants L.is_sure link.old link.new }
     ensures keep { Lasts C.faults C.wants C.is_sure keep.old keep.new }
 {

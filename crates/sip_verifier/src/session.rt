@@ -7,7 +7,6 @@ ghost use Rattle.std.specs.List.{list_all};
 ghost use Rattle.sip_ports.specs.Ports.{Lasts};
 ghost use Rattle.sip_vector.specs.declared.query.Query.{Query as AnyQuery};
 ghost use Rattle.sip_vector.specs.declared.update.Update.{Update as AnyUpdate};
-ghost use Rattle.sip_vector.specs.Answers.{Fits};
 ghost use Rattle.sip_vector.specs.Streams.{IsLegal};
 ghost use Rattle.sip_wire.specs.Versions.{Speaks, deepest, speaks};
 ghost use Rattle.sip_verifier.specs.AskClause.{AskClause, came_of};
@@ -17,7 +16,7 @@ ghost use Rattle.sip_verifier.specs.NextSeat.{IsNext};
 ghost use Rattle.sip_verifier.specs.QuerySeats.{Seated, is_seat};
 ghost use Rattle.sip_verifier.specs.ReplyBound.{ReplyBound};
 ghost use Rattle.sip_verifier.specs.Rooms.{most_nodes, most_places};
-ghost use Rattle.sip_verifier.specs.Snapshots.{sink};
+ghost use Rattle.sip_verifier.specs.Snapshots.{span};
 ghost use Rattle.sip_verifier.specs.Widths.{first_wide_seat};
 ghost use Rattle.sip_wire.specs.Table.{most_queries};
 ghost use Rattle.sip_verifier.specs.Sittings.{Starts};
@@ -236,50 +235,6 @@ impl Session {
         &self.entries[..self.found]
     }
 
-    // Asks the next query, takes the replies and judges them.
-    fn judge<L: Link, C: Sink>(
-        &mut self,
-        link: &mut L,
-        keep: &mut C,
-    ) -> Result<Verdict, SessionFault>
-        requires left { 0 < length self.old.left }
-        requires live { self.old.spent ≡ false }
-        ensures asks { (stream : List AnyUpdate) (query : AnyQuery) (seat : Seated)
-            → IsNext self.old.depth stream self.old.left query seat
-            → Asks self.old.version self.old.depth stream query seat.block (L.talk link.old)
-            (L.talk link.new) self.new.entries result }
-        ensures fits { (seat : Seated) (more : List Seated) → self.old.left ≡ seat ∷ more
-            → Fits self.old.depth seat.query }
-        ensures next { self.new.left ≡ drop 1 self.old.left }
-        ensures version { self.new.version ≡ self.old.version }
-        ensures depth { self.new.depth ≡ self.old.depth }
-        ensures spent { self.new.spent ≡ is_err result }
-        ensures cleared { result ≢ Ok Verdict.Pairs → self.new.entries ≡ [] }
-        ensures keeps { AskClause self.old.version
-            (sink L.talk L.faults L.wants link.old) (sink L.talk L.faults L.wants link.new)
-            (sink C.talk C.faults C.wants keep.old) (sink C.talk C.faults C.wants keep.new)
-            (came_of result) }
-        ensures link { Lasts L.faults L.wants L.is_sure link.old link.new }
-        ensures keep { Lasts C.faults C.wants C.is_sure keep.old keep.new }
-    {
-        let seats = self.seats.all();
-        let seat = &seats[self.asked];
-        let asked = ask_by_kind(
-            self.version,
-            seat,
-            &mut self.entries,
-            &mut self.frame,
-            &mut self.space,
-            link,
-            keep,
-        );
-        self.asked += 1;
-        self.found = found_in(self.entries.len(), &asked);
-        let verdict = verdict_of(asked);
-        self.is_spent = verdict.is_err();
-        verdict
-    }
-
     /// Asks the next query, takes the replies and judges them.
     ///
     /// A challenge leaves only after the reply before it was taken and passed its tests, and the
@@ -322,13 +277,27 @@ impl Session {
         ensures spent { self.new.spent ≡ is_err result }
         ensures cleared { result ≢ Ok Verdict.Pairs → self.new.entries ≡ [] }
         ensures keeps { AskClause self.old.version
-            (sink L.talk L.faults L.wants link.old) (sink L.talk L.faults L.wants link.new)
-            (sink C.talk C.faults C.wants keep.old) (sink C.talk C.faults C.wants keep.new)
-            (came_of result) }
+            (span L.talk L.faults L.wants link.old link.new)
+            (span C.talk C.faults C.wants keep.old keep.new) (came_of result) }
         ensures link { Lasts L.faults L.wants L.is_sure link.old link.new }
         ensures keep { Lasts C.faults C.wants C.is_sure keep.old keep.new }
     {
-        self.judge(link, keep)
+        let seats = self.seats.all();
+        let seat = &seats[self.asked];
+        let asked = ask_by_kind(
+            self.version,
+            seat,
+            &mut self.entries,
+            &mut self.frame,
+            &mut self.space,
+            link,
+            keep,
+        );
+        self.asked += 1;
+        self.found = found_in(self.entries.len(), &asked);
+        let verdict = verdict_of(asked);
+        self.is_spent = verdict.is_err();
+        verdict
     }
 
     /// Passes over the next query: nothing is said for it, and its challenges stay unused.

@@ -14,7 +14,7 @@ ghost use Rattle.sip_wire.specs.Versions.{deepest};
 ghost use Rattle.sip_verifier.specs.AskClause.{AskClause, came_of};
 ghost use Rattle.sip_verifier.specs.Asking.{AnswersCount, Asks};
 ghost use Rattle.sip_verifier.specs.ReplyBound.{ReplyBound};
-ghost use Rattle.sip_verifier.specs.Snapshots.{sink};
+ghost use Rattle.sip_verifier.specs.Snapshots.{span};
 
 use crate::seat::most_pairs;
 use crate::seat_asking::{found_in, verdict_of};
@@ -72,9 +72,8 @@ pub fn ask_sub<L: Link, C: Sink>(
     ensures cleared { result ≢ Ok Verdict.Pairs → entries.new.items ≡ [] }
     ensures room { vec_capacity entries.old ≤ vec_capacity entries.new }
     ensures keeps { AskClause version
-        (sink L.talk L.faults L.wants link.old) (sink L.talk L.faults L.wants link.new)
-        (sink C.talk C.faults C.wants keep.old) (sink C.talk C.faults C.wants keep.new)
-        (came_of result) }
+        (span L.talk L.faults L.wants link.old link.new)
+        (span C.talk C.faults C.wants keep.old keep.new) (came_of result) }
     ensures link { Lasts L.faults L.wants L.is_sure link.old link.new }
     ensures keep { Lasts C.faults C.wants C.is_sure keep.old keep.new }
 {

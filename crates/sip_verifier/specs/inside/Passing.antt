@@ -8,11 +8,9 @@ use Rattle.sip_vector.specs.declared.update.Update.{Update}
 use Rattle.sip_wire.specs.Table.{most_rows}
 use Rattle.sip_wire.specs.Versions.{index_width}
 use Rattle.sip_verifier.specs.declared.status.Status.{Status}
-use Rattle.sip_verifier.specs.declared.weights.Weights.{Weights}
 use Rattle.sip_verifier.specs.Feeding.{Waiting, fills, waiting_with}
 use Rattle.sip_verifier.specs.QuerySeats.{HaveRoom}
 use Rattle.sip_verifier.specs.Seats.{AreSeats, Seating}
-use Rattle.sip_verifier.specs.Weights.{none}
 
 -- those that the seats take then
 abbrev pub taken_with : List Update → Update → List Update
@@ -45,8 +43,3 @@ pub record TakesNext {E : Type 0} (u : Update) (feed feed_now : Waiting)
 abbrev pub left : {T : Type 0} → Result Seating Status → Result T Status → Result Seating Status
 left gathered (Ok _) = gathered
 left gathered (Err status) = Err status
-
--- the weights of what was gathered, or none
-abbrev pub weighed : Result Weights Status → Weights
-weighed (Ok weights) = weights
-weighed (Err status) = none

@@ -1,4 +1,4 @@
--- The protocol of a query's kind. (For the proof of a session's `judge` alone.)
+-- The protocol of a query's kind. (For the proofs of `ask_by_kind` and its parts alone.)
 use Rattle.std.specs.Prelude.{◌≡◌, ℕ, List}
 use Rattle.sip_ports.specs.declared.port.TalkEvent.{TalkEvent}
 use Rattle.sip_vector.specs.declared.query.Query.{Query}

@@ -19,7 +19,7 @@ returns-clause-asks g c = λ depth stream stands.
     let found = c.found_in.ensures ∙ ap (λ (n : ℕ). found_in n c.ask_by_kind-asked.result) count in
     let shown : c.truncate.new.self.items ≡ take (found_in (length places) c.ask_by_kind-asked.result) places =
     c.truncate.ensures.items ∙ ap (λ (l : List Entry). take c.found_in.result l) whole ∙ ap (λ (n : ℕ). take n places) found in
-    rw (shown, c.verdict_of.ensures) (c.ask_by_kind-asked.ensures.asks depth stream stands)
+    rw (shown, c.verdict_of.ensures) (c.ask_by_kind-asked.ensures.over.asks depth stream stands)
 
 pub returns-clause-count : goal.returns-clause-count
 returns-clause-count g c = λ depth stream stands legal.

@@ -5,7 +5,6 @@ use Rattle.sip_verifier.specs.QuerySeats.{Seated}
 use Rattle.sip_vector.specs.Limits.{most_depth}
 use Rattle.sip_wire.specs.Table.{most_queries}
 use Rattle.std.proofs.lemmas.List.{length-map}
-use Rattle.std.proofs.lemmas.Result.{err_from_is_err_and}
 use Rattle.sip_ports.proofs.TalkLemmas.{GoesOn-refl, GoesOn-trans}
 use Rattle.sip_verifier.specs.Draws.{blocks}
 use Rattle.sip_verifier.specs.Gathering.{legal}
@@ -25,19 +24,19 @@ use Rattle.sip_verifier.specs.Questions.{asking}
 use Rattle.sip_verifier.proofs.SeatedBehind.{seats_left}
 use Rattle.sip_verifier.proofs.KeptRuns.{asked_kept, both_move, gather_kept, head_moves, replies_move, start_kept, talk_moves}
 use Rattle.sip_verifier.proofs.QueryPromises.{all_read}
-use Rattle.sip_verifier.proofs.checking.check_steps.Goals as goal
+use Rattle.sip_verifier.proofs.checking.check_stream.Goals as goal
 
 pub conclude_session-requires-clause-most : goal.conclude_session-requires-clause-most
 conclude_session-requires-clause-most g c =
-    let (gathered, weights, keeps, told, (seats, came, starts)) = c.in_ok-session.ensures.gathers in
+    let (gathered, weights, keeps, told, (seats, came, starts)) = c.in-Ok.ensures.gathers in
     let seated = rw came at (keeps no_port no_port).seated in
-    let lent : c.deref_mut.result.now ≡ c.in_ok-session.session.value = search rules in
+    let lent : c.deref_mut.result.now ≡ c.in-Ok.session.value = search rules in
     let size = sym (length-map seats.seats (λ (seat : Seated). seat.query)) ∙ ap length seated.1 in
     let few : length c.args.task.now.queries.items ≤ most_queries = omega (arith, c.len-asked.ensures.value, c.len-asked.ensures.fits) in
     rw (lent, starts.2) (subst (λ (n : ℕ). n ≤ most_queries) (sym size) few)
 
-pub returns-in_err-session-clause-seed : goal.returns-in_err-session-clause-seed
-returns-in_err-session-clause-seed g c =
+pub returns-in-Err-clause-seed : goal.returns-in-Err-clause-seed
+returns-in-Err-clause-seed g c =
     let (gathered, weights, keeps, told, opened) = c.gather_session.ensures.gathers in
     (keeps no_port no_port).seed
 
@@ -46,28 +45,26 @@ returns-clause-seed g c =
     let (gathered, weights, keeps, told, opened) = c.gather_session.ensures.gathers in
     (keeps no_port no_port).seed
 
-pub returns-in_err-session-clause-keeps : goal.returns-in_err-session-clause-keeps
-returns-in_err-session-clause-keeps g c =
+pub returns-in-Err-clause-keeps : goal.returns-in-Err-clause-keeps
+returns-in-Err-clause-keeps g c =
     let report = port g.K.Sink.talk g.K.Sink.faults c.args.report.now in
-    let (seated, weights, all_keeps, told, unopened) = c.in_err-session.ensures.gathers in
+    let (seated, weights, all_keeps, told, unopened) = c.in-Err.ensures.gathers in
     let keeps = all_keeps report report in
-    let p = err_from_is_err_and c.from_residual.result c.from_residual.ensures.1 in
     let some : 1 ≤ c.args.task.now.depth = omega (arith, c.get-levels.ensures.same, c.get-levels.ensures.some) in
     let most : c.args.task.now.depth ≤ most_depth = omega (arith, c.get-levels.ensures.same, c.get-levels.ensures.most) in
-    rw (p.1, p.2)
-    (elim unopened [
+    elim unopened [
       | inl is ↦
           let stops = rw is at keeps.fault in
           kept c.args.task.now c.requires some most
-          (λ x t. after_gather asking c.args.task.now.queries.items c.args.task.now x _ _ c.in_err-session.field-0.0 _ _ t.talk (nothing_reported _ _ t.report) (rw is at keeps.gathers x.stream x.seed t.stream t.seed) stops.1)
-          (λ x t. gather_kept c.args.task.now x _ _ _ _ t.talk c.in_err-session.field-0.0 (rw is at keeps.gathers x.stream x.seed t.stream t.seed) (rw is at keeps.kept x.seed t.seed))
+          (λ x t. after_gather asking c.args.task.now.queries.items c.args.task.now x _ _ c.in-Err.status _ _ t.talk (nothing_reported _ _ t.report) (rw is at keeps.gathers x.stream x.seed t.stream t.seed) stops.1)
+          (λ x t. gather_kept c.args.task.now x _ _ _ _ t.talk c.in-Err.status (rw is at keeps.gathers x.stream x.seed t.stream t.seed) (rw is at keeps.kept x.seed t.seed))
           (λ told.
           let bytes = some_value _ told.first in
           let seed = some_value _ told.second in
-          let went = refuses_moves c.args.task.now bytes.0 seed.0 _ _ c.in_err-session.field-0.0 (rw is at keeps.gathers bytes.0 seed.0 bytes.1 seed.1) in
+          let went = refuses_moves c.args.task.now bytes.0 seed.0 _ _ c.in-Err.status (rw is at keeps.gathers bytes.0 seed.0 bytes.1 seed.1) in
           let head = head_moves c.args.task.now seed.0 _ _ seated (keeps.kept seed.0 seed.1) in
           tells _ _ told keeps.told went.0 went.1 [] (GoesOn-refl _) head.0 head.1)
-          stops.1 (gathering_listed c.in_err-session.field-0.0 stops.0)
+          stops.1 (gathering_listed c.in-Err.status stops.0)
       | inr (seats, start, is, starts, same) ↦
           rw same
           (kept c.args.task.now c.requires some most
@@ -85,18 +82,19 @@ returns-in_err-session-clause-keeps g c =
           let head = head_moves c.args.task.now seed.0 _ _ seated (keeps.kept seed.0 seed.1) in
           tells _ _ told keeps.told _ gathered.passed.talk [] (GoesOn-refl _) head.0 head.1)
           (start_caused start _ _) (start_listed start))
-    ])
+    ]
 
 pub returns-clause-keeps : goal.returns-clause-keeps
 returns-clause-keeps g c =
     let report = port g.K.Sink.talk g.K.Sink.faults c.args.report.now in
-    let (seated, weights, all_keeps, told, (seats, came, starts)) = c.in_ok-session.ensures.gathers in
+    let (seated, weights, all_keeps, told, (seats, came, starts)) = c.in-Ok.ensures.gathers in
     let keeps = all_keeps report report in
-    let lent : c.deref_mut.result.now ≡ c.in_ok-session.session.value = search rules in
+    let lent : c.deref_mut.result.now ≡ c.in-Ok.session.value = search rules in
     let speaks = ap (λ (s : Sitting). s.version) lent ∙ starts.0 in
     let talk_kept = (rw speaks at c.conclude_session.ensures.keeps).kept in
     let stops = stops_listed (λ status. is_accepted status || stops_gathering status || stops_starting status) refl _ _ _ _ _ _ _ _ _ _ _ _ c.conclude_session.result c.gather_session.ensures.peer.later c.gather_session.ensures.keep.later (c.conclude_session.ensures.keeps.fault _ _ _ _) in
-    kept c.args.task.now c.requires (omega (arith, c.get-levels.ensures.same, c.get-levels.ensures.some)) (omega (arith, c.get-levels.ensures.same, c.get-levels.ensures.most))
+    rw c.status_of.ensures
+    (kept c.args.task.now c.requires (omega (arith, c.get-levels.ensures.same, c.get-levels.ensures.some)) (omega (arith, c.get-levels.ensures.same, c.get-levels.ensures.most))
     (λ x t.
     let gathered = rw came at keeps.gathers x.stream x.seed t.stream t.seed in
     c.conclude_session.ensures.ends (inquiry_of c.args.task.now x) x _ _ (rw lent (goes_behind c.args.task.now x gathered starts refl t.talk t.report (all_read t.unread gathered.passed.read))) stops.0)
@@ -113,20 +111,18 @@ returns-clause-keeps g c =
     let kept_to = both_move _ _ _ head (replies_move _ _ _ _ _ c.conclude_session.result talk_kept) in
     let went = talk_moves _ _ _ _ _ c.conclude_session.result talk_kept in
     tells _ _ is keeps.told _ (GoesOn-trans _ _ _ _ _ gathered.passed.talk went.1) wrote.0 wrote.1 kept_to.0 kept_to.1)
-    stops.0 stops.1
+    stops.0 stops.1)
 
-pub returns-in_err-session-clause-negatives : goal.returns-in_err-session-clause-negatives
-returns-in_err-session-clause-negatives g c = λ bytes seed read drawn.
-    let (seated, weights, all_keeps, tells, unopened) = c.in_err-session.ensures.gathers in
-    let p = err_from_is_err_and c.from_residual.result c.from_residual.ensures.1 in
+pub returns-in-Err-clause-negatives : goal.returns-in-Err-clause-negatives
+returns-in-Err-clause-negatives g c = λ bytes seed read drawn.
+    let (seated, weights, all_keeps, tells, unopened) = c.in-Err.ensures.gathers in
     let told = tells bytes seed read drawn in
-    rw (p.1, p.2)
-    (elim unopened [
-      | inl is ↦ of_stopped c.args.task.now bytes c.in_err-session.field-0.0 _ (rw is at (all_keeps no_port no_port).fault).0 (rw is at told)
-      | inr (seats, start, is, starts, same) ↦ of_gathered c.args.task.now bytes c.in_err-session.field-0.0 _ (rw is at told)
-    ])
+    elim unopened [
+      | inl is ↦ of_stopped c.args.task.now bytes c.in-Err.status _ (rw is at (all_keeps no_port no_port).fault).0 (rw is at told)
+      | inr (seats, start, is, starts, same) ↦ of_gathered c.args.task.now bytes c.in-Err.status _ (rw is at told)
+    ]
 
 pub returns-clause-negatives : goal.returns-clause-negatives
 returns-clause-negatives g c = λ bytes seed read drawn.
-    let (seated, weights, all_keeps, tells, (seats, came, starts)) = c.in_ok-session.ensures.gathers in
-    of_gathered c.args.task.now bytes (status_of c.conclude_session.result) _ (rw came at (tells bytes seed read drawn))
+    let (seated, weights, all_keeps, tells, (seats, came, starts)) = c.in-Ok.ensures.gathers in
+    rw c.status_of.ensures (of_gathered c.args.task.now bytes (status_of c.conclude_session.result) _ (rw came at (tells bytes seed read drawn)))

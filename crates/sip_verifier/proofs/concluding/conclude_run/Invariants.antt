@@ -5,7 +5,7 @@ use Rattle.sip_vector.specs.declared.update.Update.{Update}
 use Rattle.sip_verifier.specs.Keeping.{WholeIsKept}
 use Rattle.sip_verifier.specs.runs.Askers.{blocks_in, queries_in}
 use Rattle.sip_verifier.specs.runs.Progress.{PassedBy}
-use Rattle.sip_verifier.proofs.concluding.check_all.Given as goal
+use Rattle.sip_verifier.proofs.concluding.conclude_run.Given as goal
 
 abbrev pub invariant-loop-asked : goal.invariant-loop-asked
 invariant-loop-asked g l = record {
