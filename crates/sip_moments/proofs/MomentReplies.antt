@@ -17,12 +17,13 @@ use Rattle.sip_helper.specs.declared.heard.Heard.TheVariants.{Nothing, Part, Who
 use Rattle.sip_helper.specs.KindRows.{refusal, want_of_memory}
 use Rattle.sip_helper.specs.Shown.{shown_vector}
 use Rattle.sip_helper.specs.Turns.{HelperState, depth_of, whole_of}
-use Rattle.sip_moments.specs.declared.question.Question.{Question}
+use Rattle.sip_moments.specs.declared.under_way.MomentUnderWay.{MomentUnderWay}
 use Rattle.sip_sums.specs.Honest.{over_pairs}
 use Rattle.sip_moments.specs.Honest.{Proving, honest_messages, its_coefficient, its_polynomial, of_first, opening, proving, round_polynomial}
 use Rattle.sip_moments.specs.Serving.{OpenMoment, after_reply, is_refused, reply_to}
 use Rattle.sip_moments.specs.Stating.{IsPolynomial, power_message}
-use Rattle.sip_moments.specs.inside.Keeping.{CanReply, claim_due, its_messages, open_of}
+use Rattle.sip_moments.specs.UnderWay.{CanReply, open_of}
+use Rattle.sip_moments.specs.inside.Keeping.{claim_due, its_messages}
 use Rattle.sip_moments.proofs.MomentCube.{polynomial-is}
 use Rattle.sip_moments.proofs.OpenMoments.{at_hand}
 use Rattle.sip_moments.proofs.PowerFrames.{power_spelled}
@@ -100,7 +101,7 @@ reply_refused None o is = refl
 reply_refused (Some v) o is = rw is refl
 
 -- one that is not
-pub reply_honest : (helper : HelperState) (q : Question) (prover : Proving)
+pub reply_honest : (helper : HelperState) (q : MomentUnderWay) (prover : Proving)
     → q.prover ≡ Some prover → CanReply helper q
     → reply_to (shown_vector helper q.side) (open_of q)
     ≡ its_messages (length q.revealed.items == 0) prover
@@ -124,7 +125,7 @@ refused_by None o is = refl
 refused_by (Some v) o is = is
 
 -- the reply is a refusal where there is no prover
-refused_is : (helper : HelperState) (q : Question) → CanReply helper q
+refused_is : (helper : HelperState) (q : MomentUnderWay) → CanReply helper q
     → is_refused (shown_vector helper q.side) (open_of q) ≡ is_none q.prover
 refused_is helper q can = by_prover q.prover refl
   where
@@ -141,7 +142,7 @@ depth_is (Part d) depth e = absurd cc
 depth_is (Whole d) depth e = cc
 
 -- a refusal closes it, and so does the last reply
-pub after_is : (helper : HelperState) (depth : ℕ) (q : Question)
+pub after_is : (helper : HelperState) (depth : ℕ) (q : MomentUnderWay)
     → whole_of helper.heard ≡ Some depth → CanReply helper q → q.given ≡ false
     → after_reply helper (open_of q)
     ≡ (if is_none q.prover || nat_le depth (length q.revealed.items + 1) then None

@@ -11,10 +11,10 @@ use Rattle.sip_vector.specs.Vectors.{SideVector}
 use Rattle.sip_helper.specs.Shown.{shown_vector}
 use Rattle.sip_helper.specs.Turns.{HelperState, whole_of}
 use Rattle.sip_helper.proofs.SubVectors.{half_of, tall}
-use Rattle.sip_moments.specs.declared.question.Question.{Question}
+use Rattle.sip_moments.specs.declared.under_way.MomentUnderWay.{MomentUnderWay}
 use Rattle.sip_moments.specs.Honest.{Proving, begun, learnt, proving}
 use Rattle.sip_moments.specs.Serving.{newly_asked}
-use Rattle.sip_moments.specs.inside.Keeping.{CanReply, HasFolded, open_of}
+use Rattle.sip_moments.specs.UnderWay.{CanReply, HasFolded, open_of}
 use Rattle.sip_moments.proofs.MomentCube.{proving-more}
 
 pub same_depth : (whole : Option ℕ) (a b : ℕ) → whole ≡ Some a → whole ≡ Some b → a ≡ b
@@ -22,13 +22,13 @@ same_depth whole a b e f = let same : Some a ≡ Some b = sym e ∙ f in cc
 
 -- ---- the prover at hand
 
-pub at_hand : (helper : HelperState) (q : Question) (prover : Proving) → q.prover ≡ Some prover
+pub at_hand : (helper : HelperState) (q : MomentUnderWay) (prover : Proving) → q.prover ≡ Some prover
     → (can : CanReply helper q) → HasFolded can.depth helper q prover
 at_hand helper q prover is can =
     subst (λ (o : Option Proving). IfSome o (HasFolded can.depth helper q)) is can.proves
 
 -- its list has two entries at least
-pub tall_at_hand : (helper : HelperState) (q : Question) (prover : Proving)
+pub tall_at_hand : (helper : HelperState) (q : MomentUnderWay) (prover : Proving)
     → q.prover ≡ Some prover → CanReply helper q → 2 ≤ length prover.level
 tall_at_hand helper q prover is can =
     let has = at_hand helper q prover is can in
@@ -36,13 +36,13 @@ tall_at_hand helper q prover is can =
 
 -- ---- a moment that was asked
 
-pub asked_is : (q : Question) (side : Side) (degree : ℕ) → q.side ≡ side → q.degree ≡ degree
+pub asked_is : (q : MomentUnderWay) (side : Side) (degree : ℕ) → q.side ≡ side → q.degree ≡ degree
     → q.revealed.items ≡ [] → q.given ≡ false
     → open_of q ≡ newly_asked side degree (is_none q.prover)
 asked_is q side degree a b c d = cc
 
 -- a prover that begins has folded by no challenge
-folded_first : (depth : ℕ) (helper : HelperState) (q : Question) (v : SideVector)
+folded_first : (depth : ℕ) (helper : HelperState) (q : MomentUnderWay) (v : SideVector)
     (o : Option Proving) → shown_vector helper q.side ≡ Some v → v.depth ≡ depth
     → q.revealed.items ≡ []
     → IfSome o (λ prover. prover ≡ begun m61_modulus q.degree v.numbers)
@@ -63,7 +63,7 @@ folded_first depth helper q v (Some prover) shown deep none is long =
       height = long ∙ ap (λ (n : ℕ). 2 ^ n) deep ∙ all;
     }
 
-pub ready_by : (helper : HelperState) (depth : ℕ) (q : Question) (v : SideVector)
+pub ready_by : (helper : HelperState) (depth : ℕ) (q : MomentUnderWay) (v : SideVector)
     → whole_of helper.heard ≡ Some depth → 1 ≤ depth → shown_vector helper q.side ≡ Some v
     → v.depth ≡ depth → q.revealed.items ≡ [] → q.given ≡ false
     → IfSome q.prover (λ prover. prover ≡ begun m61_modulus q.degree v.numbers)
@@ -78,7 +78,7 @@ ready_by helper depth q v whole some shown deep none owed is long = record {
 }
 
 -- a moment that is refused
-pub refused_ready : (helper : HelperState) (depth : ℕ) (q : Question)
+pub refused_ready : (helper : HelperState) (depth : ℕ) (q : MomentUnderWay)
     → whole_of helper.heard ≡ Some depth → 1 ≤ depth → q.revealed.items ≡ [] → q.given ≡ false
     → q.prover ≡ None → CanReply helper q
 refused_ready helper depth q whole some none owed gone = record {
@@ -93,7 +93,7 @@ refused_ready helper depth q whole some none owed gone = record {
 -- ---- a challenge
 
 -- a prover that learns one more challenge has folded by it
-folded_more : (depth : ℕ) (helper : HelperState) (q next : Question) (prover after : Proving)
+folded_more : (depth : ℕ) (helper : HelperState) (q next : MomentUnderWay) (prover after : Proving)
     (r s : ℕ) → HasFolded depth helper q prover → r < m61_modulus → s ≡ r % m61_modulus
     → after ≡ learnt m61_modulus prover s → 2 * length after.level ≡ length prover.level
     → length q.revealed.items + 1 < depth → next.side ≡ q.side → next.degree ≡ q.degree
@@ -118,7 +118,7 @@ folded_more depth helper q next prover after r s has element is above half less 
           ∙ ap (λ (n : ℕ). 2 ^ (depth - n)) (sym count);
     }
 
-pub stands_higher : (helper : HelperState) (depth : ℕ) (q next : Question)
+pub stands_higher : (helper : HelperState) (depth : ℕ) (q next : MomentUnderWay)
     (prover after : Proving) (r s : ℕ) → CanReply helper q → whole_of helper.heard ≡ Some depth
     → q.prover ≡ Some prover → next.prover ≡ Some after → r < m61_modulus
     → s ≡ r % m61_modulus → after ≡ learnt m61_modulus prover s
@@ -148,7 +148,7 @@ stands_higher helper depth q next prover after r s can whole was now element is 
 -- ---- a reply
 
 -- once its reply was given, a moment that was not refused can be asked about further
-regiven : (depth : ℕ) (helper : HelperState) (q : Question) (o : Option Proving)
+regiven : (depth : ℕ) (helper : HelperState) (q : MomentUnderWay) (o : Option Proving)
     → IfSome o (HasFolded depth helper q)
     → IfSome o (HasFolded depth helper (record q { given = true }))
 regiven depth helper q None has = tt
@@ -161,7 +161,7 @@ regiven depth helper q (Some prover) has = record {
   height = has.height;
 }
 
-pub can_go_on : (helper : HelperState) (q : Question) → CanReply helper q → q.prover ≢ None
+pub can_go_on : (helper : HelperState) (q : MomentUnderWay) → CanReply helper q → q.prover ≢ None
     → CanReply helper (record q { given = true })
 can_go_on helper q can some = record {
   depth = can.depth;

@@ -15,6 +15,7 @@ pub mod MomentClause
 pub mod Examples
 pub mod Powers
 pub mod Serving
+pub mod UnderWay
 pub mod Served
 pub mod ServedExamples
 pub mod inside

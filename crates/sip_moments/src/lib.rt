@@ -6,7 +6,7 @@
 //!   [`Moment`] is what is asked.
 //! - [`moment_stream`] is a whole run that asks for moments, up to 16 of them.
 //! - [`MomentProver`] is the honest side: the moment, and the true polynomial of each round.
-//! - [`serve_moments`] is the helper's end of a talk of moments.
+//! - [`serve_moments`] is the helper's end of a talk of moments, over a [`MomentUnderWay`].
 //!
 //! The second moment is a sum of products, and `sip_sums` has its check. What the two have in
 //! common, the rounds of a sum-check of any degree and the count of the challenges at which a wrong
@@ -52,6 +52,7 @@
 //! | `MomentClause` | what a run keeps that asks for moments |
 //! | `Honest` | the true round polynomials, and what a prover keeps |
 //! | `Serving` | the turns of a helper of moments, and what it does on a link |
+//! | `UnderWay` | an open moment as a helper keeps it |
 //! | `Served` | what such a helper hears in a run that keeps to the turns |
 //!
 //! `Powers` and `Sittings` serve the contracts of private functions alone, and `Asking` those of
@@ -95,7 +96,6 @@ mod moment_asking;
 mod powers;
 mod prover;
 pub mod proving;
-mod question;
 mod room;
 mod rounds;
 pub mod served_examples;
@@ -103,6 +103,7 @@ pub mod served_laws;
 mod serving;
 mod stream;
 mod task;
+mod under_way;
 
 pub use answer::write_moment;
 pub use asker::MomentGiven;
@@ -112,6 +113,7 @@ pub use moment::{LEAST_DEGREE, Moment};
 pub use moment_asking::MomentAsking;
 pub use prover::MomentProver;
 pub use room::is_too_high;
-pub use serving::serve_moments;
+pub use serving::{serve_moments, side_of};
 pub use stream::moment_stream;
 pub use task::MomentTask;
+pub use under_way::MomentUnderWay;

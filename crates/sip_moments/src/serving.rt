@@ -1,22 +1,18 @@
 //! The helper's end of a talk of moments.
 
-ghost use Rattle.std.specs.Prelude.{◌≡◌, ◌≢◌, ◌⊎◌, ◌^◌, ◌≤◌, Bool, IfSome, IsOk, IsTrue, OnErr};
-ghost use Rattle.std.specs.Prelude.{OnOk, None, Some, is_none, ◌↔◌, false};
+ghost use Rattle.std.specs.Prelude.{◌≡◌, ◌≢◌, ◌⊎◌, Bool, IfSome, IsOk, IsTrue, OnErr, OnOk, None};
+ghost use Rattle.std.specs.Prelude.{Some, ◌↔◌, false};
 ghost use Rattle.sip_ports.specs.Ports.{Lasts, Rose};
 ghost use Rattle.sip_wire.specs.declared.message.Message.TheVariants as messages;
 ghost use Rattle.sip_wire.specs.declared.version.Version.TheVariants.{Two};
 ghost use Rattle.sip_wire.specs.Spelling.{fits};
-ghost use Rattle.sip_wire.specs.Table.{most_claim};
-ghost use Rattle.sip_helper.specs.Shown.{weight_of};
 ghost use Rattle.sip_helper.specs.Turns.{whole_of};
-ghost use Rattle.sip_moments.specs.Moments.{IsDegree};
 ghost use Rattle.sip_moments.specs.Serving.{ServesMoments, fresh_moments, may_ask, may_follow};
-ghost use Rattle.sip_moments.specs.Serving.{may_question, newly_asked, side_of, step};
-ghost use Rattle.sip_moments.specs.inside.Keeping.{CanReply, open_of};
+ghost use Rattle.sip_moments.specs.Serving.{may_question, side_of, step};
 
 use crate::moment::LEAST_DEGREE;
-use crate::question::Question;
 use crate::room::is_too_high;
+use crate::under_way::MomentUnderWay;
 use sip_helper::{HelpStatus, HelperCore, Helps, OutOfTurn, talk};
 use sip_ports::{Link, PortStop, Sink};
 use sip_vector::{Depth, Side};
@@ -30,14 +26,15 @@ pub(crate) struct MomentCore {
     alloc: Global,
     core: HelperCore,
     asked: u8,
-    question: Option<Question>,
+    question: Option<MomentUnderWay>,
     done: bool,
 }
 
 impl Model for MomentCore {
     ghost use Rattle.std.specs.Option.{option_map};
     ghost use Rattle.sip_moments.specs.Serving.{MomentHelper};
-    ghost use Rattle.sip_moments.specs.inside.Keeping.{IsCoherent, open_of};
+    ghost use Rattle.sip_moments.specs.UnderWay.{open_of};
+    ghost use Rattle.sip_moments.specs.inside.Keeping.{IsCoherent};
 
     ghost Value = { MomentHelper };
 
@@ -52,7 +49,7 @@ impl Model for MomentCore {
 }
 
 /// The side of a number; `None` where it is above 1.
-fn side_of(number: u8) -> Option<Side>
+pub fn side_of(number: u8) -> Option<Side>
     ensures { result ≡ side_of number }
 {
     match number {
@@ -76,23 +73,6 @@ impl MomentCore {
         }
     }
 
-    /// What the replies about a moment of this side are made from. A refusal, where memory was
-    /// refused while the stream was heard.
-    fn begin(&self, depth: Depth, side: Side, degree: u8) -> Question
-        requires whole { whole_of self.now.helper.heard ≡ Some depth }
-        requires degree { IsDegree degree }
-        requires light { weight_of self.now.helper.weights side ^ degree ≤ most_claim }
-        ensures asked { open_of result ≡ newly_asked side degree (is_none result.prover) }
-        ensures ready { CanReply self.now.helper result }
-    {
-        // The proof wants that there is a level.
-        let _ = depth.get();
-        match self.core.vector(side) {
-            Some(vector) => Question::start(self.alloc, vector, side, degree),
-            None => Question::refused(side, degree),
-        }
-    }
-
     /// Takes a moment, where it may be asked, and the memory that its replies want.
     fn ask(&mut self, depth: Depth, number: u8, degree: u8) -> Result<(), OutOfTurn>
         requires due { self.old.question ≡ None }
@@ -111,7 +91,7 @@ impl MomentCore {
         if is_too_high(self.core.weight(side), degree) {
             return Err(OutOfTurn);
         }
-        let question = self.begin(depth, side, degree);
+        let question = MomentUnderWay::begin(self.alloc, &self.core, depth, side, degree);
         self.question = Some(question);
         self.asked += 1;
         Ok(())
@@ -193,7 +173,7 @@ impl Helps for MomentCore {
 
     fn owes_reply(&self) -> bool {
         match &self.question {
-            Some(question) => !question.given,
+            Some(question) => question.is_owed(),
             None => false,
         }
     }

@@ -1,7 +1,7 @@
 -- Before the stream has ended a message is heard as by a helper of queries.
 use Rattle.std.specs.Option.{option_map}
 use Rattle.sip_moments.specs.Serving.{MomentHelper}
-use Rattle.sip_moments.specs.inside.Keeping.{open_of}
+use Rattle.sip_moments.specs.UnderWay.{open_of}
 use Rattle.sip_moments.proofs.StreamTurns.{heard_on}
 use Rattle.sip_moments.proofs.serving.MomentCoreHelps.take.Goals as goal
 

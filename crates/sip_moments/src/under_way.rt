@@ -1,7 +1,7 @@
 //! A moment that is open, and what its replies are made from.
 
-ghost use Rattle.std.specs.Prelude.{◌≡◌, ◌<◌, ◌≤◌, ◌^◌, [], IfSome, IsOk, IsTrue, None, OnErr};
-ghost use Rattle.std.specs.Prelude.{OnOk, Some, ◌↔◌, false, length};
+ghost use Rattle.std.specs.Prelude.{◌≡◌, ◌<◌, ◌≤◌, ◌^◌, [], Bool, IfSome, IsOk, IsTrue, None};
+ghost use Rattle.std.specs.Prelude.{OnErr, OnOk, Some, ◌↔◌, false, length, not};
 ghost use Rattle.std.specs.List.{flat_map};
 ghost use Rattle.std.specs.Option.{option_map};
 ghost use Rattle.sip_field.specs.Moduli.{m61_modulus};
@@ -11,26 +11,32 @@ ghost use Rattle.sip_wire.specs.declared.message.Message.TheVariants as messages
 ghost use Rattle.sip_wire.specs.declared.version.Version.{Version as AnyVersion};
 ghost use Rattle.sip_wire.specs.Spelling.{fits, spelling};
 ghost use Rattle.sip_wire.specs.Table.{most_claim};
-ghost use Rattle.sip_helper.specs.Shown.{shown_vector};
+ghost use Rattle.sip_helper.specs.Shown.{shown_vector, weight_of};
 ghost use Rattle.sip_helper.specs.Turns.{HelperState as AnyHelper, whole_of};
 ghost use Rattle.sip_moments.specs.Honest.{begun, its_polynomial};
 ghost use Rattle.sip_moments.specs.Moments.{IsDegree};
 ghost use Rattle.sip_moments.specs.Stating.{power_message};
-ghost use Rattle.sip_moments.specs.Serving.{after_reply, may_follow, reply_to, with_challenge};
-ghost use Rattle.sip_moments.specs.inside.Keeping.{CanReply, its_messages, open_of};
+ghost use Rattle.sip_moments.specs.Serving.{after_reply, may_follow, newly_asked, reply_to};
+ghost use Rattle.sip_moments.specs.Serving.{with_challenge};
+ghost use Rattle.sip_moments.specs.UnderWay.{CanReply, open_of};
+ghost use Rattle.sip_moments.specs.inside.Keeping.{its_messages};
 
 use crate::prover::MomentProver;
 use arrayvec::ArrayVec;
 use sip_field::{Field, M61};
-use sip_helper::{OutOfTurn, WANT_OF_MEMORY, put_refusal};
+use sip_helper::{HelperCore, OutOfTurn, WANT_OF_MEMORY, put_refusal};
 use sip_ports::{PortStop, Sink};
-use sip_vector::{CAP, Side, Vector};
+use sip_vector::{CAP, Depth, Side, Vector};
 use sip_wire::{Message, Version, encode};
 use std::alloc::Global;
 
-/// A moment that was asked.
+/// A moment that was asked, as a helper has it until its last reply was given.
+///
+/// It is begun by [`begin`](MomentUnderWay::begin), and the reply that is owed goes out by
+/// [`put_reply`](MomentUnderWay::put_reply). [`after_reply`](MomentUnderWay::after_reply) says
+/// whether it is open still, and [`reveal`](MomentUnderWay::reveal) takes the next challenge.
 #[derive(Drop)]
-pub(crate) struct Question {
+pub struct MomentUnderWay {
     pub(crate) side: Side,
     pub(crate) degree: u8,
     /// What its replies are made from; `None` where memory was refused for it.
@@ -105,9 +111,33 @@ fn put_honest<K: Sink>(
     put_polynomial(version, prover, out)
 }
 
-impl Question {
+impl MomentUnderWay {
+    /// What the replies about a moment of this side are made from, behind the stream that a helper
+    /// heard. Takes the memory that they want, the only that they ever take; where that is refused,
+    /// or was refused while the stream was heard, the reply is a refusal.
+    pub fn begin(
+        alloc: Global,
+        core: &HelperCore,
+        depth: Depth,
+        side: Side,
+        degree: u8,
+    ) -> MomentUnderWay
+        requires whole { whole_of core.now.heard ≡ Some depth }
+        requires degree { IsDegree degree }
+        requires light { weight_of core.now.weights side ^ degree ≤ most_claim }
+        ensures asked { (refused : Bool) × (open_of result ≡ newly_asked side degree refused) }
+        ensures ready { CanReply core.now result }
+    {
+        // The proof wants that there is a level.
+        let _ = depth.get();
+        match core.vector(side) {
+            Some(vector) => MomentUnderWay::start(alloc, vector, side, degree),
+            None => MomentUnderWay::refused(side, degree),
+        }
+    }
+
     /// Takes the memory that the replies want, the only that they ever take.
-    pub(crate) fn start(alloc: Global, vector: &Vector, side: Side, degree: u8) -> Question
+    pub(crate) fn start(alloc: Global, vector: &Vector, side: Side, degree: u8) -> MomentUnderWay
         requires degree { IsDegree degree }
         requires light { vector.now.weight ^ degree ≤ most_claim }
         ensures side { result.side ≡ side }
@@ -119,7 +149,7 @@ impl Question {
         ensures level { IfSome result.prover (λ prover.
             length prover.level ≡ 2 ^ vector.now.depth) }
     {
-        Question {
+        MomentUnderWay {
             side,
             degree,
             prover: MomentProver::start(alloc, vector, degree).ok(),
@@ -129,14 +159,14 @@ impl Question {
     }
 
     /// A moment for which memory was refused.
-    pub(crate) fn refused(side: Side, degree: u8) -> Question
+    pub(crate) fn refused(side: Side, degree: u8) -> MomentUnderWay
         ensures side { result.side ≡ side }
         ensures degree { result.degree ≡ degree }
         ensures revealed { result.revealed.items ≡ [] }
         ensures owed { result.given ≡ false }
         ensures none { result.prover ≡ None }
     {
-        Question {
+        MomentUnderWay {
             side,
             degree,
             prover: None,
@@ -145,9 +175,20 @@ impl Question {
         }
     }
 
+    /// Whether a reply is owed.
+    pub fn is_owed(&self) -> bool
+        ensures { result ≡ not (open_of self.now).given }
+    {
+        !self.given
+    }
+
     /// Takes the challenge of the round that was answered, where one may be revealed. The next
     /// reply is owed then.
-    pub(crate) fn reveal(&mut self, depth: u8, challenge: u64) -> Result<(), OutOfTurn>
+    ///
+    /// # Errors
+    ///
+    /// `OutOfTurn` exactly where no reply was given to go on from, or no level is left above it.
+    pub fn reveal(&mut self, depth: u8, challenge: u64) -> Result<(), OutOfTurn>
         requires deep { depth ≤ most_depth }
         requires element { challenge < m61_modulus }
         requires stands { (helper : AnyHelper) × (whole_of helper.heard ≡ Some depth)
@@ -172,7 +213,11 @@ impl Question {
     }
 
     /// Sends the reply that is owed, one write a frame. It takes no memory.
-    pub(crate) fn put_reply<K: Sink>(&self, version: Version, out: &mut K) -> Result<(), PortStop>
+    ///
+    /// # Errors
+    ///
+    /// Those of the sink, which a front of the reply has then reached that is shorter than it.
+    pub fn put_reply<K: Sink>(&self, version: Version, out: &mut K) -> Result<(), PortStop>
         requires stands { (helper : AnyHelper) × CanReply helper self.now }
         ensures talk { (helper : AnyHelper) → CanReply helper self.now
             → SendsWhole (K.talk out.old) (K.talk out.new) result (flat_map (spelling version)
@@ -186,8 +231,8 @@ impl Question {
     }
 
     /// The moment once its reply was given; `None` where that was a refusal or the last one.
-    pub(crate) fn after_reply(self, depth: u8) -> Option<Question>
-        requires owed { self.given ≡ false }
+    pub fn after_reply(self, depth: u8) -> Option<MomentUnderWay>
+        requires owed { (open_of self).given ≡ false }
         ensures after { (helper : AnyHelper) → whole_of helper.heard ≡ Some depth
             → CanReply helper self → option_map open_of result ≡ after_reply helper (open_of self) }
         ensures stands { (helper : AnyHelper) → whole_of helper.heard ≡ Some depth

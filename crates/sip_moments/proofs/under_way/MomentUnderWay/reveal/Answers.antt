@@ -1,7 +1,7 @@
 -- The prover learns the challenge.
 use Rattle.std.proofs.Common.{refl, arith}
 use Rattle.sip_moments.proofs.OpenMoments.{stands_higher, tall_at_hand}
-use Rattle.sip_moments.proofs.question.Question.reveal.Goals as goal
+use Rattle.sip_moments.proofs.under_way.MomentUnderWay.reveal.Goals as goal
 
 pub learn-requires : goal.learn-requires
 learn-requires c =

@@ -9,7 +9,7 @@ use Rattle.sip_wire.specs.Table.{most_degree}
 use Rattle.sip_moments.specs.Honest.{its_coefficient}
 use Rattle.sip_moments.specs.Stating.{power_message}
 use Rattle.sip_moments.proofs.MomentReplies.{polynomial_fits}
-use Rattle.sip_moments.proofs.question.polynomial_of.Goals as goal
+use Rattle.sip_moments.proofs.under_way.polynomial_of.Goals as goal
 
 pub push-requires : goal.push-requires
 push-requires c =

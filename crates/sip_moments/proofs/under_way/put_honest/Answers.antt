@@ -8,7 +8,7 @@ use Rattle.sip_helper.proofs.Sending.{sends_after}
 use Rattle.sip_moments.specs.Honest.{its_polynomial}
 use Rattle.sip_moments.specs.Stating.{power_message}
 use Rattle.sip_moments.proofs.MomentReplies.{first_bytes}
-use Rattle.sip_moments.proofs.question.put_honest.Goals as goal
+use Rattle.sip_moments.proofs.under_way.put_honest.Goals as goal
 
 pub returns-clause-talk : goal.returns-clause-talk
 returns-clause-talk g c =

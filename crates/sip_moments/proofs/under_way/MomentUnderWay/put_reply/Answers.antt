@@ -7,7 +7,7 @@ use Rattle.sip_wire.specs.Spelling.{spelling}
 use Rattle.sip_moments.specs.inside.Keeping.{its_messages}
 use Rattle.sip_moments.proofs.MomentReplies.{reply_honest}
 use Rattle.sip_moments.proofs.OpenMoments.{tall_at_hand}
-use Rattle.sip_moments.proofs.question.Question.put_reply.Goals as goal
+use Rattle.sip_moments.proofs.under_way.MomentUnderWay.put_reply.Goals as goal
 
 pub put_honest-requires : goal.put_honest-requires
 put_honest-requires g c = record {
