@@ -4,6 +4,7 @@ pub mod Steps
 pub mod HeadFields
 pub mod Closing
 pub mod SeatFields
+pub mod Fronts
 pub mod Seats
 pub mod Apart
 pub mod Putting
@@ -18,3 +19,4 @@ pub mod Lifted
 pub mod Summed
 pub mod Coming
 pub mod Next
+pub mod Grown

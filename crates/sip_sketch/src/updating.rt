@@ -8,7 +8,7 @@ ghost use Rattle.sip_vector.specs.Tallies.{joined, tally};
 ghost use Rattle.sip_vector.specs.declared.update.Side.TheVariants as sides;
 ghost use Rattle.sip_vector.specs.declared.update.Update.{Update as AnyUpdate};
 ghost use Rattle.sip_sketch.specs.Standing.{IsKept, MayCome, Stands};
-ghost use Rattle.sip_sketch.specs.inside.Raising.{IsNext};
+ghost use Rattle.sip_sketch.specs.inside.Raising.{IsGrown, IsNext};
 
 use crate::Sketch;
 use crate::reading::MOST_WEIGHT;
@@ -122,12 +122,7 @@ impl Sketch {
         requires next { MayCome self.old updates.now }
         requires firsts { firsts.now ≡ of_side updates.now sides.First }
         requires seconds { seconds.now ≡ of_side updates.now sides.Second }
-        ensures kept { IsKept self.old self.new }
-        ensures told { self.new.tally ≡ joined self.old.tally (tally updates.now) }
-        ensures used { AllZip (λ old new. old.is_used ≡ true → new ≡ old) self.old.seats
-            self.new.seats }
-        ensures stands { (stream : List AnyUpdate) → Stands stream self.old
-            → Stands (stream ++ updates.now) self.new }
+        ensures { IsGrown updates.now self.old self.new }
     {
         let more = told(updates, weight_of(firsts), weight_of(seconds));
         self.tally.absorb(&more);

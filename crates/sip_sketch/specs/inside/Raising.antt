@@ -2,6 +2,7 @@
 use Rattle.std.specs.Prelude.{◌≡◌, ◌≢◌, ℕ, ◌+◌, ◌^◌, ◌<◌, ◌≤◌, false, true, pos, ⊤, List, []}
 use Rattle.std.specs.Prelude.{◌∷◌, ◌++◌}
 use Rattle.std.specs.Int.{from_bool}
+use Rattle.std.specs.List.{AllZip}
 use Rattle.sip_field.specs.Moduli.{m61_modulus}
 use Rattle.sip_tree.specs.Blocks.{total_after}
 use Rattle.sip_vector.specs.declared.tally.Tally.{Tally}
@@ -12,8 +13,8 @@ use Rattle.sip_vector.specs.Streams.{most_weight, weight}
 use Rattle.sip_vector.specs.Tallies.{joined, tally}
 use Rattle.sip_verifier.specs.QuerySeats.{RunningNumbers, aug_root_is}
 use Rattle.sip_sketch.specs.Fields.{IsValue}
-use Rattle.sip_sketch.specs.Sketches.{SeatValues, code_of, second_of}
-use Rattle.sip_sketch.specs.Standing.{SeatStands}
+use Rattle.sip_sketch.specs.Sketches.{SeatValues, SketchValues, code_of, second_of}
+use Rattle.sip_sketch.specs.Standing.{IsKept, SeatStands, Stands}
 
 -- its second number is a value where this is told of the stream
 abbrev pub HasSecond : Tally → SeatValues → Type 0
@@ -52,3 +53,10 @@ pub record IsRaised (updates : List Update) (old new : SeatValues) : Type 0 wher
   pub left : old.is_used ≡ true → new ≡ old
   pub stands : (depth : ℕ) (stream : List Update) → old.is_used ≡ false
       → SeatStands depth stream old → SeatStands depth (stream ++ updates) new
+
+-- these updates came to the sketch
+pub record IsGrown (updates : List Update) (old new : SketchValues) : Type 0 where
+  pub kept : IsKept old new
+  pub told : new.tally ≡ joined old.tally (tally updates)
+  pub used : AllZip (λ was now. was.is_used ≡ true → now ≡ was) old.seats new.seats
+  pub stands : (stream : List Update) → Stands stream old → Stands (stream ++ updates) new
