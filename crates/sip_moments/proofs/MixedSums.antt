@@ -1,5 +1,5 @@
 -- The sums of products of powers over pairs, and their differences.
-use Rattle.std.proofs.Common.{◌≡◌, ℕ, zero, suc, ◌+◌, ◌*◌, ◌-◌, ◌/◌, ◌%◌, ◌^◌, ◌<◌, ◌≤◌, List, [], ◌∷◌, length, sum_by, All, refl, ap, sym, ◌∙◌, inl, inr, add-one, arith}
+use Rattle.std.proofs.Common.{◌≡◌, ℕ, zero, suc, ◌+◌, ◌*◌, ◌-◌, ◌/◌, ◌%◌, ◌^◌, ◌<◌, ◌≤◌, List, [], ◌∷◌, length, get_or, sum_by, All, refl, ap, sym, ◌∙◌, inl, inr, add-one, arith}
 use Rattle.std.proofs.Math.Nat.{mod-lt, mod-eq_of_lt, mod-add-mod, add-mod-mod, add-mod_right, pow-zero, pow-succ'}
 use Rattle.std.proofs.lemmas.Bool.{cases_lt}
 use Rattle.std.proofs.lemmas.Bool.Decides.{eqb_tells}
@@ -16,6 +16,7 @@ use Rattle.sip_sums.proofs.ResidueProducts.{mod_twice, mod_times}
 use Rattle.sip_sums.proofs.RoundSums.{other_end}
 use Rattle.sip_moments.specs.Honest.{binomial, of_first, term}
 use Rattle.sip_moments.specs.Powers.{mixed, AreDifferences}
+use Rattle.sip_moments.proofs.Places.{at, read}
 
 -- ---- one pair
 
@@ -38,6 +39,12 @@ mixed-last k s =
 pub first-counted : (p k s a v : ℕ) (pair : Neighbours) → a ≡ (pair.left ^ k) % p → v ≡ (s + a) % p → v ≡ (s + mixed k 0 pair) % p
 first-counted p k s a v pair is_a is_v =
     is_v ∙ ap (λ n. (s + n) % p) is_a ∙ add-mod-mod s (pair.left ^ k) p ∙ ap (λ n. (s + n) % p) (sym (mixed-first k pair))
+
+-- so is the first number of a slice
+pub first-added : {F : Type 0} (number : F → ℕ) (p k : ℕ) (sums : List F) (pair : Neighbours) (was power v : F) → 0 < length sums → was ≡ get_or sums 0 was
+    → number power ≡ (pair.left ^ k) % p → number v ≡ (number was + number power) % p → number v ≡ (at number sums 0 + mixed k 0 pair) % p
+first-added number p k sums pair was power v within is of_left plus =
+    first-counted p k (at number sums 0) (number power) (number v) pair of_left (plus ∙ ap (λ n. (n + number power) % p) (read number sums 0 was within is))
 
 no_power : (a k : ℕ) → 1 ≤ k → a ≡ 0 → a ^ k ≡ 0
 no_power a zero some e = absurd (omega arith)

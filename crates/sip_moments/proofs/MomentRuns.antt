@@ -14,7 +14,6 @@ use Rattle.sip_vector.specs.Limits.{most_narrow_depth}
 use Rattle.sip_wire.specs.Versions.{is_of_two}
 use Rattle.sip_wire.specs.declared.version.Version.{Version}
 use Rattle.sip_wire.specs.declared.version.Version.TheVariants.{One, Two}
-use Rattle.sip_verifier.specs.declared.status.Port.TheVariants as ports
 use Rattle.sip_verifier.specs.declared.status.Status.{Status}
 use Rattle.sip_verifier.specs.declared.status.Status.TheVariants as statuses
 use Rattle.sip_verifier.specs.Draws.{challenges_of}
@@ -23,7 +22,6 @@ use Rattle.sip_verifier.specs.Gathering.{HasSeed, IsGathered}
 use Rattle.sip_verifier.specs.Inquiries.{run_over}
 use Rattle.sip_verifier.specs.Snapshots.{Counts, IsTold, Snapshot}
 use Rattle.sip_verifier.specs.Seats.{AreSeats, Seating}
-use Rattle.sip_verifier.specs.Statuses as statuses_of
 use Rattle.sip_verifier.specs.Statuses.{FaultClause}
 use Rattle.sip_verifier.specs.Talks.{stream_sent}
 use Rattle.sip_verifier.specs.Tasks as tasks
@@ -97,33 +95,14 @@ module _ (task : MomentTask) (some : 1 ≤ task.depth) (x : Exchange) where
   any : (moments : List Moment) → All (λ (m : Moment). Unit {0}) moments
   any moments = λ i m inside. tt
 
-  counted : (status : Status) → VerdictClause asking r x status → statuses_of.IsListed status
+  -- counts follow from verdicts
+  counted : (status : Status) → VerdictClause asking r x status
       → CountClause asking counting r x
-  counted status v is =
+  counted =
       report_counts asking counting r x (few_of r.queries) (λ (m : Moment). Unit {0})
       (any r.queries)
       (λ q written _ accepts. moment_counts r.version r.depth (updates r x)
       (records_legal task.depth task.form x.stream) q written accepts)
-      status v is
-
-  -- counts follow from verdicts; where no line may be written it is as for a bad seed
-  counts_of : (status : Status) → VerdictClause asking r x status
-      → CountClause asking counting r x
-  counts_of statuses.Accepted v = counted statuses.Accepted v refl
-  counts_of (statuses.Rejected query round reason) v =
-      counted (statuses.Rejected query round reason) v refl
-  counts_of (statuses.Usage word) v = counted statuses.BadSeed v refl
-  counts_of (statuses.BadStream at why) v = counted statuses.BadSeed v refl
-  counts_of statuses.BadSeed v = counted statuses.BadSeed v refl
-  counts_of statuses.SeedSpent v = counted statuses.BadSeed v refl
-  counts_of (statuses.TooWide query) v = counted statuses.BadSeed v refl
-  counts_of (statuses.TooHigh query) v = counted statuses.BadSeed v refl
-  counts_of (statuses.ReadFault port) v = counted statuses.BadSeed v refl
-  counts_of (statuses.WriteFault ports.Report) v = counted (statuses.WriteFault ports.Report) v refl
-  counts_of (statuses.WriteFault ports.Keep) v = counted (statuses.WriteFault ports.Keep) v refl
-  counts_of statuses.PeerFault v = counted statuses.PeerFault v refl
-  counts_of statuses.OutOfMemory v = counted statuses.OutOfMemory v refl
-  counts_of _ v = absurd v
 
   pub promised : (before now : Counts) (status : Status) → Ended asking r x before now status
       → Promises asking counting honesty r x before now status
@@ -131,7 +110,7 @@ module _ (task : MomentTask) (some : 1 ≤ task.depth) (x : Exchange) where
     verdict = e.verdict;
     talk = e.talk;
     cause = e.cause;
-    count = counts_of status e.verdict;
+    count = counted status e.verdict;
     complete = moments_complete task x some before now status e.verdict e.cause;
   }
 

@@ -1,11 +1,13 @@
 //! One moment, asked of the helper and judged.
 
-ghost use Rattle.std.specs.Prelude.{◌≡◌, ◌≢◌, ◌⊎◌, ◌%◌, ◌^◌, ℕ, List, Ok, Err};
+ghost use Rattle.std.specs.Prelude.{◌≡◌, ◌≢◌, ◌%◌, ◌^◌, ℕ, List, Ok};
 ghost use Rattle.sip_field.specs.Elements.{m61_number};
 ghost use Rattle.sip_field.specs.Moduli.{m61_modulus};
-ghost use Rattle.sip_ports.specs.Ports.{Lasts, Rose};
+ghost use Rattle.sip_ports.specs.Ports.{Lasts};
 ghost use Rattle.sip_vector.specs.declared.update.Update.{Update as AnyUpdate};
-ghost use Rattle.sip_verifier.specs.runs.Askers.{Asks, KeepsAsked};
+ghost use Rattle.sip_verifier.specs.AskClause.{AskClause};
+ghost use Rattle.sip_verifier.specs.Snapshots.{span};
+ghost use Rattle.sip_verifier.specs.runs.Askers.{Asks};
 ghost use Rattle.sip_moments.specs.AcceptsMoment.{power_at};
 ghost use Rattle.sip_moments.specs.Manner.{asking, numbers_of};
 ghost use Rattle.sip_moments.specs.Moments.{IsDegree};
@@ -17,7 +19,7 @@ use sip_field::{M61, Seat};
 use sip_ports::{Link, Sink};
 use sip_replies::{AskStop, Said, ask};
 use sip_vector::CAP;
-use sip_verifier::{SessionFault, Unanswered};
+use sip_verifier::Unanswered;
 use sip_wire::{Frame, Version};
 
 // What came of a question for a moment: it is answered by a number.
@@ -62,14 +64,9 @@ pub fn ask_moment<L: Link, C: Sink>(
         ≡ power_at m61_modulus moment.degree (numbers_of depth stream moment) seat.now
         → Asks (asking version depth stream) (moment, seat.now) (L.talk link.old) (L.talk link.new)
         (λ value stated. value ≡ stated) result }
-    ensures kept { KeepsAsked (L.talk link.old) (L.talk link.new) (C.talk keep.old)
-        (C.talk keep.new) version result }
-    ensures cause { result ≡ Err (Unanswered.Fault SessionFault.PeerFault)
-        → Rose (L.faults link.old) (L.faults link.new) }
-    ensures keep_cause { result ≡ Err (Unanswered.Fault SessionFault.KeepFault)
-        → Rose (C.faults keep.old) (C.faults keep.new) }
-    ensures memory { result ≡ Err (Unanswered.Fault SessionFault.OutOfMemory)
-        → Rose (L.wants link.old) (L.wants link.new) ⊎ Rose (C.wants keep.old) (C.wants keep.new) }
+    ensures keeps { AskClause version
+        (span L.talk L.faults L.wants link.old link.new)
+        (span C.talk C.faults C.wants keep.old keep.new) result }
     ensures link { Lasts L.faults L.wants L.is_sure link.old link.new }
     ensures keep { Lasts C.faults C.wants C.is_sure keep.old keep.new }
 {

@@ -9,10 +9,10 @@ ghost use Rattle.std.specs.Prelude.{slice_index, slice_index_or, sum_by, All};
 ghost use Rattle.std.specs.List.{range_with_len};
 ghost use Rattle.sip_field.specs.Residue.{difference_mod};
 ghost use Rattle.sip_sums.specs.Honest.{over_pairs};
-ghost use Rattle.sip_sums.specs.Pairs.{neighbours_of, pairs_of};
+ghost use Rattle.sip_sums.specs.Pairs.{pairs_of};
 ghost use Rattle.sip_wire.specs.Table.{most_degree};
 ghost use Rattle.sip_moments.specs.Honest.{binomial, of_first};
-ghost use Rattle.sip_moments.specs.Powers.{mixed, AreDifferences, AreResidues};
+ghost use Rattle.sip_moments.specs.Powers.{mixed, AddsPair, AreDifferences, AreResidues};
 
 use crate::powers::power;
 use sip_field::Field;
@@ -78,8 +78,7 @@ fn add_pair<F: Field>(sums: &mut [F], degree: u8, pair: Pair<F>)
     requires degree { degree ≤ most_degree }
     requires places { length sums.old ≡ degree + 1 }
     ensures same { length sums.new ≡ length sums.old }
-    ensures sums { AreResidues F.MODULUS degree (λ j. slice_index_or (map F.number sums.old) j 0
-        + mixed degree j (neighbours_of F.number pair)) (map F.number sums.new) }
+    ensures sums { AddsPair F.number F.MODULUS degree pair sums.old sums.new }
 {
     if pair.right.number() == 0 {
         sums[0] = sums[0].plus(power(pair.left, degree));
@@ -94,8 +93,7 @@ fn add_both<F: Field>(sums: &mut [F], degree: u8, pair: Pair<F>)
     requires degree { degree ≤ most_degree }
     requires places { length sums.old ≡ degree + 1 }
     ensures same { length sums.new ≡ length sums.old }
-    ensures sums { AreResidues F.MODULUS degree (λ j. slice_index_or (map F.number sums.old) j 0
-        + mixed degree j (neighbours_of F.number pair)) (map F.number sums.new) }
+    ensures sums { AddsPair F.number F.MODULUS degree pair sums.old sums.new }
 {
     let degree = usize::from(degree);
     let left = powers_of(pair.left, degree);

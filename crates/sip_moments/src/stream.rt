@@ -12,7 +12,6 @@ ghost use Rattle.sip_verifier.specs.GatherClause.{GatherClause};
 ghost use Rattle.sip_verifier.specs.Seats.{Seating};
 ghost use Rattle.sip_verifier.specs.Snapshots.{PortState, counts, no_port, port, snapshot};
 ghost use Rattle.sip_verifier.specs.Weights.{AreWeights};
-ghost use Rattle.sip_verifier.specs.runs.Concluding.{status_of};
 ghost use Rattle.sip_moments.specs.inside.Seating.{IsSeated, IsUnseated};
 ghost use Rattle.sip_moments.specs.Manner.{first_high};
 ghost use Rattle.sip_moments.specs.MomentClause.{MomentClause};
@@ -26,7 +25,7 @@ use crate::task::MomentTask;
 use arrayvec::ArrayVec;
 use sip_ports::{Link, NullSink, Sink, Source};
 use sip_vector::{Depth, Query};
-use sip_verifier::{Seats, Status, Task, Weights, conclude_run, gather};
+use sip_verifier::{Seats, Status, Task, Weights, conclude_run, gather, status_of};
 use sip_wire::{Frame, MOST_QUERIES, Version};
 use std::alloc::Global;
 use std::mem;
@@ -146,37 +145,6 @@ fn gather_questions<A: Source, B: Source, L: Link>(
     seat_questions(alloc, task, &weights, &mut gathered)
 }
 
-/// All that the run does, up to its first stop.
-fn moment_steps<A: Source, B: Source, L: Link, K: Sink>(
-    alloc: Global,
-    task: &MomentTask,
-    first: &mut A,
-    second: &mut B,
-    peer: &mut L,
-    report: &mut K,
-) -> Result<(), Status>
-    requires { CanBeDone task.now }
-    ensures keeps { MomentClause task.now
-        (snapshot (port A.left A.faults first.old) (port B.left B.faults second.old)
-        (port L.talk L.faults peer.old) (port K.talk K.faults report.old) no_port)
-        (snapshot (port A.left A.faults first.new) (port B.left B.faults second.new)
-        (port L.talk L.faults peer.new) (port K.talk K.faults report.new) no_port)
-        (status_of result) }
-    ensures first { Lasts A.faults A.wants A.is_sure first.old first.new }
-    ensures seed { TakesAtMost 32 (B.left second.old) (B.left second.new) }
-    ensures second { Lasts B.faults B.wants B.is_sure second.old second.new }
-    ensures peer { Lasts L.faults L.wants L.is_sure peer.old peer.new }
-    ensures report { Lasts K.faults K.wants K.is_sure report.old report.new }
-{
-    let levels = task.depth.get();
-    prove!(levels >= 1 && levels <= Depth::MOST);
-    let asked = task.moments.len();
-    prove!(asked <= MOST_QUERIES);
-    let mut questions = gather_questions(alloc, task, first, second, peer)?;
-    // No record of the talk is kept.
-    conclude_run(&mut *questions, peer, report, &mut NullSink::new())
-}
-
 /// Asks for moments of a stream: draws the challenges from `second`, reads the stream of `first`
 /// and sends it over `peer`, asks each moment, judges the replies and writes a line for each to
 /// `report`.
@@ -210,8 +178,14 @@ pub fn moment_stream<A: Source, B: Source, L: Link, K: Sink>(
     ensures peer { Lasts L.faults L.wants L.is_sure peer.old peer.new }
     ensures report { Lasts K.faults K.wants K.is_sure report.old report.new }
 {
-    match moment_steps(alloc, task, first, second, peer, report) {
-        Ok(()) => Status::Accepted,
-        Err(status) => status,
-    }
+    let levels = task.depth.get();
+    prove!(levels >= 1 && levels <= Depth::MOST);
+    let asked = task.moments.len();
+    prove!(asked <= MOST_QUERIES);
+    let mut questions = match gather_questions(alloc, task, first, second, peer) {
+        Ok(questions) => questions,
+        Err(status) => return status,
+    };
+    // No record of the talk is kept.
+    status_of(conclude_run(&mut *questions, peer, report, &mut NullSink::new()))
 }

@@ -23,23 +23,15 @@ returns-clause-asks g c = λ depth stream power.
     (asks_so c.args.version depth stream c.args.moment c.args.seat.now _ _ _ _ _ c.ask-asked.result
     (rw (c.start-check.ensures.block, power) at (c.ask-asked.ensures.answers _ refl stood)))
 
-pub returns-clause-kept : goal.returns-clause-kept
-returns-clause-kept g c =
-    rw c.verdict_of.ensures
-    (keeps_so _ c.args.moment _ _ _ _ _ _ c.ask-asked.result
-    (c.ask-asked.ensures.answers _ refl (c.start-check.ensures.stands c.args.version _)))
-
-pub returns-clause-cause : goal.returns-clause-cause
-returns-clause-cause g c = λ e.
-    c.ask-asked.ensures.peer (peer_only c.ask-asked.result (sym c.verdict_of.ensures ∙ e))
-
-pub returns-clause-keep_cause : goal.returns-clause-keep_cause
-returns-clause-keep_cause g c = λ e.
-    c.ask-asked.ensures.keeper (keep_only c.ask-asked.result (sym c.verdict_of.ensures ∙ e))
-
-pub returns-clause-memory : goal.returns-clause-memory
-returns-clause-memory g c = λ e.
-    elim (memory_only c.ask-asked.result (sym c.verdict_of.ensures ∙ e)) [
-      | inl is ↦ inl (c.ask-asked.ensures.memory is)
-      | inr is ↦ inr (c.ask-asked.ensures.keeper_memory is)
-    ]
+pub returns-clause-keeps : goal.returns-clause-keeps
+returns-clause-keeps g c =
+    let e = c.ask-asked.ensures in
+    record {
+      kept = rw c.verdict_of.ensures (keeps_so _ c.args.moment _ _ _ _ _ _ c.ask-asked.result (e.answers _ refl (c.start-check.ensures.stands c.args.version _)));
+      cause = λ is. e.peer (peer_only c.ask-asked.result (sym c.verdict_of.ensures ∙ is));
+      keep_cause = λ is. e.keeper (keep_only c.ask-asked.result (sym c.verdict_of.ensures ∙ is));
+      memory = λ is. elim (memory_only c.ask-asked.result (sym c.verdict_of.ensures ∙ is)) [
+        | inl link ↦ inl (e.memory link)
+        | inr keep ↦ inr (e.keeper_memory keep)
+      ];
+    }

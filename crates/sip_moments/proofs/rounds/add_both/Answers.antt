@@ -2,7 +2,7 @@ use Rattle.std.proofs.Common.{◌≡◌, ℕ, ◌+◌, ◌-◌, ◌%◌, ◌^◌
 use Rattle.std.proofs.lemmas.List.{length-set}
 use Rattle.sip_sums.specs.Pairs.{Neighbours, neighbours_of}
 use Rattle.sip_moments.specs.Powers.{mixed}
-use Rattle.sip_moments.proofs.MixedSums.{counted, first-counted}
+use Rattle.sip_moments.proofs.MixedSums.{counted, first-added}
 use Rattle.sip_moments.proofs.Places.{at, kept, read, value-next, values-behind}
 use Rattle.sip_moments.proofs.PowerSteps.{first-power, power-next}
 use Rattle.sip_moments.proofs.rounds.add_both.Goals as goal
@@ -13,15 +13,13 @@ loop-place-init g c =
     let p : ℕ = g.F.Field.MODULUS in
     let k : ℕ = c.args.degree in
     let sums = c.args.sums.now in
-    let pair : Neighbours = neighbours_of number c.args.pair in
     let v = c.plus.result in
+    let pair : Neighbours = neighbours_of number c.args.pair in
     let within : 0 < length sums = omega (arith, c.requires.places) in
     let power : number c.of_number.result ≡ (pair.left ^ k) % p =
     c.of_number.ensures ∙ c.powers_of-left.ensures.powers c.from-degree.result (omega (arith, c.from-degree.ensures, c.requires.some)) (omega arith)
     ∙ ap (λ i. (pair.left ^ i) % p) c.from-degree.ensures in
-    let here : number v ≡ (at number sums 0 + mixed k 0 pair) % p =
-    first-counted p k (at number sums 0) (number c.of_number.result) (number v) pair power
-    (c.plus.ensures ∙ ap (λ n. (n + number c.of_number.result) % p) (read number sums 0 _ within c.index-sums-0.is)) in
+    let here = first-added number p k sums pair _ c.of_number.result v within c.index-sums-0.is power c.plus.ensures in
     record {
       long = length-set sums 0 v;
       done = value-next number (λ j n. n ≡ (at number sums j + mixed k j pair) % p) sums 0 v within (λ j low. absurd (omega (arith, low))) here;

@@ -1,9 +1,9 @@
-use Rattle.std.proofs.Common.{◌≡◌, ℕ, ◌+◌, ◌%◌, ◌<◌, length, set, ap, subst, ◌∙◌, inl, inr, arith}
+use Rattle.std.proofs.Common.{◌≡◌, ℕ, ◌+◌, ◌%◌, ◌<◌, length, set, subst, ◌∙◌, inl, inr, arith}
 use Rattle.std.proofs.lemmas.Bool.{cases_lt}
 use Rattle.sip_sums.specs.Pairs.{Neighbours, neighbours_of}
 use Rattle.sip_moments.specs.Powers.{mixed}
-use Rattle.sip_moments.proofs.MixedSums.{first-counted, no_left, no_right, unchanged}
-use Rattle.sip_moments.proofs.Places.{at, below, kept, read, wrote}
+use Rattle.sip_moments.proofs.MixedSums.{first-added, no_left, no_right, unchanged}
+use Rattle.sip_moments.proofs.Places.{at, below, kept, wrote}
 use Rattle.sip_moments.proofs.rounds.add_pair.Goals as goal
 
 pub returns-then-number-eq0-clause-sums : goal.returns-then-number-eq0-clause-sums
@@ -16,9 +16,7 @@ returns-then-number-eq0-clause-sums g c j low =
     let v = c.plus.result in
     let within : 0 < length sums = omega (arith, c.requires.places) in
     let zero : pair.right ≡ 0 = omega (arith, c.number.ensures, c.if-number-eq0.true) in
-    let here : number v ≡ (at number sums 0 + mixed k 0 pair) % p =
-    first-counted p k (at number sums 0) (number c.power.result) (number v) pair c.power.ensures
-    (c.plus.ensures ∙ ap (λ n. (n + number c.power.result) % p) (read number sums 0 _ within c.index-sums-0.is)) in
+    let here = first-added number p k sums pair _ c.power.result v within c.index-sums-0.is c.power.ensures c.plus.ensures in
     elim (cases_lt j 1) [
       | inl first ↦ subst (λ i. at number (set sums 0 v) i ≡ (at number sums i + mixed k i pair) % p) (let e : 0 ≡ j = omega (arith, first) in e) (wrote number sums 0 v within ∙ here)
       | inr later ↦

@@ -1,13 +1,11 @@
 -- What came of the next moment came of the first that is left.
-use Rattle.std.proofs.Common.{◌≡◌, ◌<◌, ◌+◌, ◌≤◌, ℕ, ℤ, List, get_or, length, Err, refl, sym, ap, subst, ◌∙◌, arith, rules, w64, to_z, of_z, FitsSigned}
+use Rattle.std.proofs.Common.{◌≡◌, ◌<◌, ◌+◌, ◌≤◌, ℕ, List, get_or, length, Err, refl, sym, ap, subst, ◌∙◌, arith, rules, w64, to_z, of_z, FitsSigned}
 use Rattle.std.proofs.lemmas.Int.{to_z-of_z}
 use Rattle.sip_field.specs.Elements.{m61_number}
 use Rattle.sip_vector.specs.declared.update.Side.TheVariants.{First}
-use Rattle.sip_verifier.specs.AskClause.{AskClause}
 use Rattle.sip_verifier.specs.runs.Askers.{Asks, IsFirst, has_failed}
 use Rattle.sip_verifier.specs.SeatNumbers.{IsPointAt}
-use Rattle.sip_verifier.specs.Snapshots.{sink}
-use Rattle.sip_verifier.proofs.KeptAsks.{answer_keeps, stop_keeps}
+use Rattle.sip_verifier.proofs.KeptAsks.{given_keeps, stop_keeps}
 use Rattle.sip_moments.specs.declared.asker.MomentGiven.{MomentGiven}
 use Rattle.sip_moments.specs.declared.moment.Moment.{Moment}
 use Rattle.sip_moments.specs.Manner.{asking}
@@ -79,15 +77,8 @@ returns-in-Err-clause-remaining g c =
 
 pub returns-clause-keeps : goal.returns-clause-keeps
 returns-clause-keeps g c =
-    let e = c.ask_moment-asked.ensures in
-    rw (← c.self.view_is) (answer_keeps c.self.inside.version _ _ _ _ _ (rw c.in-Ok.is at e.kept))
+    rw (← c.self.view_is) (given_keeps c.self.inside.version _ _ _ _ _ _ (rw c.in-Ok.is at c.ask_moment-asked.ensures.keeps))
 
 pub returns-in-Err-clause-keeps : goal.returns-in-Err-clause-keeps
 returns-in-Err-clause-keeps g c =
-    let e = c.ask_moment-asked.ensures in
-    let whole : AskClause {G = ℤ} c.self.inside.version (sink g.L.Sink.talk g.L.Sink.faults g.L.Sink.wants c.args.link.now)
-    (sink g.L.Sink.talk g.L.Sink.faults g.L.Sink.wants c.ask_moment-asked.new.link)
-    (sink g.C.Sink.talk g.C.Sink.faults g.C.Sink.wants c.args.keep.now)
-    (sink g.C.Sink.talk g.C.Sink.faults g.C.Sink.wants c.ask_moment-asked.new.keep) c.ask_moment-asked.result =
-    record { kept = e.kept; cause = e.cause; keep_cause = e.keep_cause; memory = e.memory } in
-    rw (← c.self.view_is) (stop_keeps c.self.inside.version _ _ _ _ c.in-Err.why (rw c.in-Err.is at whole))
+    rw (← c.self.view_is) (stop_keeps c.self.inside.version _ _ _ _ c.in-Err.why (rw c.in-Err.is at c.ask_moment-asked.ensures.keeps))
