@@ -19,7 +19,7 @@ use Rattle.sip_verifier.specs.declared.session.Verdict.TheVariants as verdicts
 use Rattle.sip_verifier.specs.AskClause.{AskClause, came_of}
 use Rattle.sip_verifier.specs.Keeping.{AllIsKept, FramesAreKept, FrontIsKept, WholeIsKept}
 use Rattle.sip_verifier.specs.runs.Askers.{KeepsAsked}
-use Rattle.sip_verifier.specs.Snapshots.{SinkState}
+use Rattle.sip_verifier.specs.Snapshots.{SinkState, between}
 use Rattle.sip_verifier.proofs.KeptAsks.{fault_keeps}
 use Rattle.sip_verifier.proofs.KeptQueries.{all_of_whole, asked_then, frames_of_whole, front_of_all, whole_then}
 use Rattle.sip_verifier.proofs.KeptReplies.{heard-ended, heard-ending}
@@ -123,7 +123,7 @@ module _ (version : Version) where
 -- the link stopped while the Ask was sent
 pub link_keeps : {G : Type 0} (version : Version) (old new before now : SinkState) (port : PortStop) → WholeIsKept old.told new.told before.told now.told version
     → (port ≡ port_stops.Failed → Rose old.faults new.faults) → (port ≡ port_stops.OutOfMemory → Rose old.wants new.wants)
-    → AskClause {G = G} version old new before now (Err (stop_of_link port))
+    → AskClause {G = G} version (between old new) (between before now) (Err (stop_of_link port))
 link_keeps version old new before now port_stops.Failed w failed wanted =
     fault_keeps version old new before now faults.PeerFault (frames_of_whole old.told new.told before.told now.told version w) (λ is. failed refl) (λ is. absurd cc) (λ is. absurd cc)
 link_keeps version old new before now port_stops.OutOfMemory w failed wanted =

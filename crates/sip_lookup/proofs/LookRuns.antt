@@ -1,9 +1,8 @@
 -- All that a run of lookups keeps, from its first three promises; and how its lookups go on behind
 -- the stream.
-use Rattle.std.proofs.Common.{◌≡◌, ◌≤◌, ℕ, ◌*◌, Option, Some, Bool, true, false, List, [], length, All, refl, sym, subst, ◌∙◌}
-use Rattle.std.specs.Prelude.{◌||◌, replicate}
+use Rattle.std.proofs.Common.{◌≡◌, ◌≤◌, ℕ, ◌*◌, Option, Some, false, List, [], length, All, refl, sym, subst, ◌∙◌}
+use Rattle.std.specs.Prelude.{replicate}
 use Rattle.std.specs.List.{zip}
-use Rattle.std.proofs.lemmas.Bool.{or_right}
 use Rattle.sip_ports.specs.declared.port.TalkEvent.{TalkEvent}
 use Rattle.sip_ports.specs.Ports.{outs}
 use Rattle.sip_ports.proofs.TalkLemmas.{GoesOn-trans}
@@ -22,7 +21,7 @@ use Rattle.sip_verifier.specs.runs.Askers.{GoesBehind}
 use Rattle.sip_verifier.specs.runs.Concluding.{Ended}
 use Rattle.sip_verifier.specs.runs.Runs.{updates}
 use Rattle.sip_verifier.specs.Seats.{Seating}
-use Rattle.sip_verifier.specs.Statuses.{FaultClause, is_accepted, stops_gathering, stops_starting, stops_asking}
+use Rattle.sip_verifier.specs.Statuses.{FaultClause}
 use Rattle.sip_verifier.proofs.Blocks.{are_blocks, IsBlock, none_drawn}
 use Rattle.sip_verifier.proofs.CompleteManners.{Judges, all_zipped, completes}
 use Rattle.sip_verifier.proofs.RunTalks.{Adds, said_is, written_is}
@@ -38,13 +37,6 @@ use Rattle.sip_lookup.specs.declared.task.LookTask.{LookTask}
 use Rattle.sip_lookup.proofs.HonestLooks.{look_done, look_faulty}
 use Rattle.sip_lookup.proofs.RootedTasks.{All-beside, any_speaks, blocks_beside, queries_beside, rooted_query, run_same, seats_count}
 use Rattle.sip_lookup.proofs.WrittenLooks.{few_looks, look_counts}
-
--- ---- lists of statuses
-
--- each is one of those of `verify`
-more_listed : (a b c : Bool) → (a || c) ≡ true → (a || b || c) ≡ true
-more_listed true b c is = refl
-more_listed false b c is = or_right b c is
 
 module _ (task : LookTask) (rooted : Task) (same_depth : rooted.depth ≡ task.depth) (same_form : rooted.form ≡ task.form)
     (queries : rooted.queries.items ≡ replicate (length task.lookups.items) rooted_query) (can : CanLookUp task) (some : 1 ≤ task.depth) (most : task.depth ≤ most_depth) where
@@ -75,15 +67,14 @@ module _ (task : LookTask) (rooted : Task) (same_depth : rooted.depth ≡ task.d
             t may.0 may.1 b a agree fault faulty other;
       }
 
-  promised : (x : Exchange) (before now : Counts) (status : Status) → IsListed status → Ended looking (run_of task x) x before now status → LookPromises task x before now status
-  promised x before now status listed e = record {
+  promised : (x : Exchange) (before now : Counts) (status : Status) → Ended looking (run_of task x) x before now status → LookPromises task x before now status
+  promised x before now status e = record {
     verdict = e.verdict;
     talk = e.talk;
     cause = e.cause;
     count = report_counts looking counting (run_of task x) x
         (λ i other less. few_looks (version_of task) task.depth (updates (run_of task x) x) (legal x) _ (can.items i other less))
-        (CanLook task.depth) can.items (look_counts (version_of task) task.depth (updates (run_of task x) x) (legal x)) status e.verdict
-        (more_listed (is_accepted status || stops_gathering status) (stops_starting status) (stops_asking status) listed);
+        (CanLook task.depth) can.items (look_counts (version_of task) task.depth (updates (run_of task x) x) (legal x)) status e.verdict;
     complete = completes looking honesty (run_of task x) x CanBeJudged (judges x)
         (λ h. all_zipped (CanLook task.depth) (IsBlock task.depth) task.lookups.items
         (cut task.depth h.challenges) can.items (at_blocks x h.challenges h.drawn))
@@ -98,7 +89,7 @@ module _ (task : LookTask) (rooted : Task) (same_depth : rooted.depth ≡ task.d
       → FaultClause before.faults now.faults status → IsListed status
       → LookClause task before now status
   kept {before = before} {now = now} {status = status} ends moves fault listed = record {
-    promises = λ x t. promised x before.faults now.faults status listed (ends x t);
+    promises = λ x t. promised x before.faults now.faults status (ends x t);
     moves = moves;
     fault = fault;
     listed = listed;

@@ -16,7 +16,6 @@ use Rattle.sip_replies.specs.Replies.{joined}
 use Rattle.sip_replies.proofs.Saying.{reveal_fits}
 use Rattle.sip_subvec.specs.Honest.{honest_replies, honest_reply}
 use Rattle.sip_subvec.specs.Replies.{most_entries}
-use Rattle.sip_vector.specs.declared.query.Query.{Query}
 use Rattle.sip_vector.specs.declared.query.Query.TheVariants.{Sub}
 use Rattle.sip_vector.specs.declared.update.Side.TheVariants.{First}
 use Rattle.sip_vector.specs.declared.update.Update.{Update}

@@ -16,7 +16,7 @@ ghost use Rattle.sip_wire.specs.Spelling.{spelling};
 ghost use Rattle.sip_wire.specs.Versions.{deepest};
 ghost use Rattle.sip_verifier.specs.AskClause.{AskClause};
 ghost use Rattle.sip_verifier.specs.runs.Askers.{Asks};
-ghost use Rattle.sip_verifier.specs.Snapshots.{sink};
+ghost use Rattle.sip_verifier.specs.Snapshots.{span};
 ghost use Rattle.sip_lookup.specs.Frames.{ask_message, found_in};
 ghost use Rattle.sip_lookup.specs.Hearing.{HearsFound, is_of_link, stop_of_found, stop_of_keeper};
 ghost use Rattle.sip_lookup.specs.Hearing.{stop_of_link};
@@ -177,9 +177,8 @@ pub fn ask_look<L: Link, C: Sink>(
         (L.talk link.new) (λ given answer. looked_of given ≡ answer) result }
     ensures room { vec_capacity entries.old ≤ vec_capacity entries.new }
     ensures keeps { AskClause version
-        (sink L.talk L.faults L.wants link.old) (sink L.talk L.faults L.wants link.new)
-        (sink C.talk C.faults C.wants keep.old) (sink C.talk C.faults C.wants keep.new)
-        result }
+        (span L.talk L.faults L.wants link.old link.new)
+        (span C.talk C.faults C.wants keep.old keep.new) result }
     ensures link { Lasts L.faults L.wants L.is_sure link.old link.new }
     ensures keep { Lasts C.faults C.wants C.is_sure keep.old keep.new }
 {

@@ -10,7 +10,6 @@ ghost use Rattle.sip_verifier.specs.declared.weights.Weights.{Weights as AnyWeig
 ghost use Rattle.sip_verifier.specs.Exchanges.{TakesAtMost};
 ghost use Rattle.sip_verifier.specs.GatherClause.{GatherClause};
 ghost use Rattle.sip_verifier.specs.Snapshots.{PortState, counts, no_port, port, snapshot};
-ghost use Rattle.sip_verifier.specs.runs.Concluding.{status_of};
 ghost use Rattle.sip_verifier.specs.SeatNumbers.{has_root};
 ghost use Rattle.sip_verifier.specs.Seats.{Seating};
 ghost use Rattle.sip_lookup.specs.inside.Seating.{IsRooted, IsSeated, IsUnseated};
@@ -21,7 +20,7 @@ use crate::asker::Looker;
 use crate::task::LookTask;
 use sip_ports::{Link, NullSink, Sink, Source};
 use sip_vector::Depth;
-use sip_verifier::{Seats, Status, conclude_run, gather};
+use sip_verifier::{Seats, Status, conclude_run, gather, status_of};
 use std::alloc::Global;
 use std::mem;
 
@@ -98,34 +97,6 @@ fn gather_lookups<A: Source, B: Source, L: Link>(
     seat_lookups(alloc, task, &mut gathered)
 }
 
-/// All that a run does, up to its first stop.
-fn look_steps<A: Source, B: Source, L: Link, K: Sink>(
-    alloc: Global,
-    task: &LookTask,
-    first: &mut A,
-    second: &mut B,
-    peer: &mut L,
-    report: &mut K,
-) -> Result<(), Status>
-    requires { CanLookUp task.now }
-    ensures keeps { LookClause task.now
-        (snapshot (port A.left A.faults first.old) (port B.left B.faults second.old)
-        (port L.talk L.faults peer.old) (port K.talk K.faults report.old) no_port)
-        (snapshot (port A.left A.faults first.new) (port B.left B.faults second.new)
-        (port L.talk L.faults peer.new) (port K.talk K.faults report.new) no_port)
-        (status_of result) }
-    ensures first { Lasts A.faults A.wants A.is_sure first.old first.new }
-    ensures seed { TakesAtMost 32 (B.left second.old) (B.left second.new) }
-    ensures second { Lasts B.faults B.wants B.is_sure second.old second.new }
-    ensures peer { Lasts L.faults L.wants L.is_sure peer.old peer.new }
-    ensures report { Lasts K.faults K.wants K.is_sure report.old report.new }
-{
-    let levels = task.depth.get();
-    prove!(levels >= 1 && levels <= Depth::MOST);
-    let mut looker = gather_lookups(alloc, task, first, second, peer)?;
-    conclude_run(&mut *looker, peer, report, &mut NullSink::new())
-}
-
 /// Does a task: draws the challenges from `second`, reads the stream of `first` and sends it over
 /// `peer`, asks each lookup, judges the replies and writes a line for each to `report`.
 ///
@@ -155,8 +126,11 @@ pub fn look_stream<A: Source, B: Source, L: Link, K: Sink>(
     ensures peer { Lasts L.faults L.wants L.is_sure peer.old peer.new }
     ensures report { Lasts K.faults K.wants K.is_sure report.old report.new }
 {
-    match look_steps(alloc, task, first, second, peer, report) {
-        Ok(()) => Status::Accepted,
-        Err(status) => status,
-    }
+    let levels = task.depth.get();
+    prove!(levels >= 1 && levels <= Depth::MOST);
+    let mut looker = match gather_lookups(alloc, task, first, second, peer) {
+        Ok(looker) => looker,
+        Err(status) => return status,
+    };
+    status_of(conclude_run(&mut *looker, peer, report, &mut NullSink::new()))
 }

@@ -1,7 +1,6 @@
 -- At each end of the steps the facts of the calls before it are handed to the lemma of that end.
 use Rattle.std.proofs.Common.{◌≡◌, ◌≤◌, ℕ, None, List, [], refl, ◌∙◌, arith, inl, inr, rules}
 use Rattle.std.specs.Prelude.{◌||◌}
-use Rattle.std.proofs.lemmas.Result.{err_from_is_err_and}
 use Rattle.sip_ports.proofs.TalkLemmas.{GoesOn-refl, GoesOn-trans}
 use Rattle.sip_vector.specs.Limits.{most_depth}
 use Rattle.sip_verifier.specs.declared.status.Status.TheVariants as statuses
@@ -13,19 +12,19 @@ use Rattle.sip_verifier.specs.Statuses.{is_accepted, stops_asking, stops_gatheri
 use Rattle.sip_verifier.proofs.KeptRuns.{talk_moves}
 use Rattle.sip_verifier.proofs.ListedStops.{gathering_first, stops_listed}
 use Rattle.sip_verifier.proofs.QueryPromises.{all_read}
-use Rattle.sip_verifier.proofs.RunTalks.{nothing_reported, refuses_moves, said_is, some_value, tells}
+use Rattle.sip_verifier.proofs.RunTalks.{nothing_reported, passed_tells, refuses_moves, said_is, some_value, tells}
 use Rattle.sip_lookup.specs.Questions.{looking}
 use Rattle.sip_lookup.specs.Tasks.{run_of}
 use Rattle.sip_lookup.proofs.LookRuns.{ended_same, goes_behind, kept, stand}
 use Rattle.sip_lookup.proofs.RootedTasks.{few_beside}
-use Rattle.sip_lookup.proofs.running.look_steps.Goals as goal
+use Rattle.sip_lookup.proofs.running.look_stream.Goals as goal
 
 -- an exchange over these bytes, of which nothing else is told
 abbrev over_bytes : List ℕ → List ℕ → Exchange
 over_bytes stream seed = record { stream = stream; unread = []; seed = seed; talk = []; report = []; kept = None }
 
-pub returns-in_err-looker-clause-seed : goal.returns-in_err-looker-clause-seed
-returns-in_err-looker-clause-seed g c =
+pub returns-in-Err-clause-seed : goal.returns-in-Err-clause-seed
+returns-in-Err-clause-seed g c =
     let (over, rooted, seated, weights, keeps, made) = c.gather_lookups.ensures.gathers in
     (keeps no_port no_port).seed
 
@@ -36,24 +35,22 @@ returns-clause-seed g c =
 
 pub conclude_run-requires-clause-most : goal.conclude_run-requires-clause-most
 conclude_run-requires-clause-most g c =
-    let (over, rooted, seated, weights, keeps, made) = c.in_ok-looker.ensures.gathers in
+    let (over, rooted, seated, weights, keeps, made) = c.in-Ok.ensures.gathers in
     let (seats, was, is) = made in
-    let lent : c.deref_mut.result.now ≡ c.in_ok-looker.looker.value = search rules in
+    let lent : c.deref_mut.result.now ≡ c.in-Ok.looker.value = search rules in
     rw (lent, is)
     (few_beside c.args.task.now.lookups.items seats.seats _ _ (rw was at (keeps no_port no_port).seated).1 rooted.few)
 
-pub returns-in_err-looker-clause-keeps : goal.returns-in_err-looker-clause-keeps
-returns-in_err-looker-clause-keeps g c =
+pub returns-in-Err-clause-keeps : goal.returns-in-Err-clause-keeps
+returns-in-Err-clause-keeps g c =
     let report = port g.K.Sink.talk g.K.Sink.faults c.args.report.now in
-    let (over, rooted, seated, weights, all_keeps, unseated) = c.in_err-looker.ensures.gathers in
+    let (over, rooted, seated, weights, all_keeps, unseated) = c.in-Err.ensures.gathers in
     let keeps = all_keeps report report in
-    let p = err_from_is_err_and c.from_residual.result c.from_residual.ensures.1 in
     let some : 1 ≤ c.args.task.now.depth = omega (arith, c.get-levels.ensures.same, c.get-levels.ensures.some) in
     let most : c.args.task.now.depth ≤ most_depth = omega (arith, c.get-levels.ensures.same, c.get-levels.ensures.most) in
     let task = c.args.task.now in
-    let status = c.in_err-looker.field-0.0 in
-    rw (p.1, p.2)
-    (elim unseated [
+    let status = c.in-Err.status in
+    elim unseated [
       | inl was ↦
           let stops = rw was at keeps.fault in
           kept task over rooted.depth rooted.form rooted.queries c.requires some most
@@ -72,27 +69,24 @@ returns-in_err-looker-clause-keeps g c =
           let gathered = rw was at keeps.gathers x.stream x.seed t.stream t.seed in
           ended_same task over rooted.depth rooted.form rooted.queries c.requires some most x _ _ statuses.OutOfMemory
           (after_stream looking task.lookups.items over x _ _ (gathered.challenges, gathered.draws) gathered.passed.to_end (said_is _ _ _ _ gathered.passed.talk t.talk) (nothing_reported _ _ t.report)))
-          (λ told.
-          let bytes = some_value _ told.first in
-          let seed = some_value _ told.second in
-          let gathered = rw was at keeps.gathers bytes.0 seed.0 bytes.1 seed.1 in
-          tells _ _ told keeps.told _ gathered.passed.talk [] (GoesOn-refl _) [] tt)
+          (λ told. passed_tells over seats _ _ told keeps.told (λ bytes seed read drawn. rw was at keeps.gathers bytes seed read drawn) (GoesOn-refl _) tt)
           tt refl)
-    ])
+    ]
 
 pub returns-clause-keeps : goal.returns-clause-keeps
 returns-clause-keeps g c =
     let report = port g.K.Sink.talk g.K.Sink.faults c.args.report.now in
-    let (over, rooted, seated, weights, all_keeps, made) = c.in_ok-looker.ensures.gathers in
+    let (over, rooted, seated, weights, all_keeps, made) = c.in-Ok.ensures.gathers in
     let (seats, was, is) = made in
     let keeps = all_keeps report report in
-    let lent : c.deref_mut.result.now ≡ c.in_ok-looker.looker.value = search rules in
+    let lent : c.deref_mut.result.now ≡ c.in-Ok.looker.value = search rules in
     let some : 1 ≤ c.args.task.now.depth = omega (arith, c.get-levels.ensures.same, c.get-levels.ensures.some) in
     let most : c.args.task.now.depth ≤ most_depth = omega (arith, c.get-levels.ensures.same, c.get-levels.ensures.most) in
     let task = c.args.task.now in
     let begun = lent ∙ is in
     let stops = stops_listed (λ status. is_accepted status || stops_gathering status) refl _ _ _ _ _ _ _ _ _ 0 0 0 c.conclude_run.result c.gather_lookups.ensures.peer.later (omega arith) (c.conclude_run.ensures.keeps.fault _ _ _ _) in
-    kept task over rooted.depth rooted.form rooted.queries c.requires some most
+    rw c.status_of.ensures
+    (kept task over rooted.depth rooted.form rooted.queries c.requires some most
     (λ x t.
     let gathered = rw was at keeps.gathers x.stream x.seed t.stream t.seed in
     c.conclude_run.ensures.ends (run_of task x) x _ _
@@ -106,4 +100,4 @@ returns-clause-keeps g c =
     (rw begun (stand task over rooted.depth rooted.form rooted.queries c.requires some most (over_bytes bytes.0 seed.0) gathered)) in
     let went = talk_moves _ _ _ _ _ c.conclude_run.result c.conclude_run.ensures.keeps.kept in
     tells _ _ told keeps.told _ (GoesOn-trans _ _ _ _ _ gathered.passed.talk went.1) wrote.0 wrote.1 [] tt)
-    stops.0 stops.1
+    stops.0 stops.1)
