@@ -22,7 +22,7 @@ use Rattle.sip_verifier.specs.Asking as sessions
 use Rattle.sip_verifier.specs.runs.Askers.{Asks}
 use Rattle.sip_verifier.specs.runs.Asking.{IsAnswered, IsInterrupted, IsUnrecorded, question_of}
 use Rattle.sip_verifier.specs.runs.Manners.{Manner}
-use Rattle.sip_verifier.specs.Snapshots.{SinkState}
+use Rattle.sip_verifier.specs.Snapshots.{SinkState, between}
 use Rattle.sip_verifier.proofs.KeptAsks.{given_keeps, stop_keeps}
 use Rattle.sip_lookup.specs.declared.answer.LookAnswer.{LookAnswer}
 use Rattle.sip_lookup.specs.declared.lookup.Lookup.{Lookup}
@@ -151,8 +151,8 @@ pub power_is : (depth : ℕ) (stream : List Update) (moment : Moment) (block : L
 power_is depth stream moment block value extension is stands = ap (λ (n : ℕ). (n ^ moment.degree) % m61_modulus) (is ∙ stands.same)
 
 -- and what is kept of the talk about a query
-pub query_keeps : (query : Query) (version : Version) (old new before now : SinkState) (result : Result Verdict SessionFault) → AskClause version old new before now (came_of result)
-    → AskClause version old new before now (query_given query result)
+pub query_keeps : (query : Query) (version : Version) (old new before now : SinkState) (result : Result Verdict SessionFault) → AskClause version (between old new) (between before now) (came_of result)
+    → AskClause version (between old new) (between before now) (query_given query result)
 query_keeps query version old new before now (Ok (verdicts.Number value)) k = given_keeps version old new before now _ _ k
 query_keeps query version old new before now (Ok verdicts.Pairs) k = given_keeps version old new before now _ _ k
 query_keeps query version old new before now (Ok (verdicts.Rejected round reason)) k = stop_keeps version old new before now (Rejected round reason) k

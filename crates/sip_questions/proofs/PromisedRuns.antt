@@ -1,5 +1,5 @@
 -- A run of questions that keeps to the clauses of verdicts and of causes keeps to those of counts and of completeness: each question does what one of its kind does.
-use Rattle.std.proofs.Common.{IsTrue, ◌≡◌, ◌≢◌, ℕ, Bool, true, false, List, [], ◌∷◌, ◌++◌, None, All, refl, sym, ap, ◌∙◌, arith}
+use Rattle.std.proofs.Common.{◌≡◌, ◌≢◌, ℕ, Bool, true, false, List, [], ◌∷◌, ◌++◌, None, All, refl, sym, ap, ◌∙◌, arith}
 use Rattle.std.proofs.lemmas.List.Elements.{All-cons, All-head, All-nil, All-tail}
 use Rattle.sip_ports.specs.Ports.{heard}
 use Rattle.sip_vector.specs.declared.update.Update.{Update}
@@ -8,14 +8,10 @@ use Rattle.sip_vector.specs.Streams.{IsLegal}
 use Rattle.sip_stream.proofs.LegalRecords.{records_legal}
 use Rattle.sip_vector.specs.declared.query.Query.TheVariants.{Sub}
 use Rattle.sip_wire.specs.declared.message.Reason.TheVariants as reasons
-use Rattle.sip_wire.specs.declared.version.Version.{Version}
-use Rattle.sip_wire.specs.declared.version.Version.TheVariants.{One, Two}
-use Rattle.sip_wire.specs.Versions.{Speaks, speaks}
+use Rattle.sip_wire.specs.Versions.{Speaks}
 use Rattle.sip_replies.specs.Replies.{Fault}
 use Rattle.sip_replies.proofs.Hearing.{heard-asked}
-use Rattle.sip_verifier.specs.declared.status.Port.TheVariants as ports
 use Rattle.sip_verifier.specs.declared.status.Status.{Status}
-use Rattle.sip_verifier.specs.declared.status.Status.TheVariants as statuses
 use Rattle.sip_verifier.specs.CompletenessClause.{HasFewEntries}
 use Rattle.sip_verifier.specs.Exchanges.{Exchange}
 use Rattle.sip_verifier.specs.Kinds.{kind_row}
@@ -24,13 +20,13 @@ use Rattle.sip_verifier.specs.runs.CountClause.{CountClause}
 use Rattle.sip_verifier.specs.runs.Runs.{Run, updates}
 use Rattle.sip_verifier.specs.runs.VerdictClause.{VerdictClause}
 use Rattle.sip_verifier.specs.Snapshots.{Counts}
-use Rattle.sip_verifier.specs.Statuses.{IsListed}
 use Rattle.sip_verifier.specs.Widths.{first_true, is_too_wide}
 use Rattle.sip_verifier.proofs.Blocks.{IsBlock}
 use Rattle.sip_verifier.proofs.CompleteManners.{Judges, all_zipped, completes}
 use Rattle.sip_verifier.proofs.CountedQuestions.{few_wrong, question_counts}
 use Rattle.sip_verifier.proofs.HeardQuestions.{faulty_heard, question_heard}
 use Rattle.sip_verifier.proofs.HonestQuestions.{question_done, question_faulty}
+use Rattle.sip_verifier.proofs.RootAsked.{has_code}
 use Rattle.sip_verifier.proofs.WideQueries.{none_wide}
 use Rattle.sip_verifier.proofs.WrittenReports.{report_counts}
 use Rattle.sip_lookup.proofs.HonestLooks.{look_done, look_faulty}
@@ -44,11 +40,6 @@ use Rattle.sip_questions.specs.Counting.{FewFor, CountsOf, counting}
 use Rattle.sip_questions.specs.Honest.{CanAnswer, answer, honest_bytes, honesty}
 use Rattle.sip_questions.specs.Promises.{CanPose, CanRun, IsWhole, QuestionClauses}
 use Rattle.sip_questions.specs.Questions.{AcceptsOf, Answered, IsFaultyOf, Posed, asking, first_refusal, refusal_of, said_of, to_query, to_lookup, to_moment}
-
--- a sub-vector has a code in each version
-has_code : (version : Version) (lo hi : ℕ) → IsTrue (speaks version (Sub lo hi))
-has_code One lo hi = refl
-has_code Two lo hi = refl
 
 -- the one test of a list that none passes
 one_false : (test : Bool) → first_true (test ∷ []) ≡ None → test ≡ false
@@ -89,27 +80,10 @@ module _ (r : Run Question) (x : Exchange) (can : CanRun r x) where
   one_counts t (questions.Moment moment) (to_query written) may accepts = absurd accepts
   one_counts t (questions.Moment moment) (to_lookup written) may accepts = absurd accepts
 
-  counted : (status : Status) → VerdictClause asking r x status → IsListed status → CountClause asking counting r x
-  counted status v is =
+  counted : (status : Status) → VerdictClause asking r x status → CountClause asking counting r x
+  counted =
       report_counts asking counting r x (few_all r.queries can.asked) (CanPose r.version r.depth) can.asked
-      (λ t written may accepts. one_counts t t.query written may accepts) status v is
-
-  -- where no line may be written it is as for a bad seed
-  counts_of : (status : Status) → VerdictClause asking r x status → CountClause asking counting r x
-  counts_of statuses.Accepted v = counted statuses.Accepted v refl
-  counts_of (statuses.Rejected query round reason) v = counted (statuses.Rejected query round reason) v refl
-  counts_of (statuses.Usage word) v = counted statuses.BadSeed v refl
-  counts_of (statuses.BadStream at why) v = counted statuses.BadSeed v refl
-  counts_of statuses.BadSeed v = counted statuses.BadSeed v refl
-  counts_of statuses.SeedSpent v = counted statuses.BadSeed v refl
-  counts_of (statuses.TooWide query) v = counted statuses.BadSeed v refl
-  counts_of (statuses.TooHigh query) v = counted statuses.BadSeed v refl
-  counts_of (statuses.ReadFault port) v = counted statuses.BadSeed v refl
-  counts_of (statuses.WriteFault ports.Report) v = counted (statuses.WriteFault ports.Report) v refl
-  counts_of (statuses.WriteFault ports.Keep) v = counted (statuses.WriteFault ports.Keep) v refl
-  counts_of statuses.PeerFault v = counted statuses.PeerFault v refl
-  counts_of statuses.OutOfMemory v = counted statuses.OutOfMemory v refl
-  counts_of _ v = absurd v
+      (λ t written may accepts. one_counts t t.query written may accepts)
 
   -- ---- an honest helper
 
@@ -187,7 +161,7 @@ module _ (r : Run Question) (x : Exchange) (can : CanRun r x) where
     verdict = e.verdict;
     talk = e.talk;
     cause = e.cause;
-    count = counts_of status e.verdict;
+    count = counted status e.verdict;
     complete = completes asking honesty r x CanBeJudged judges
         (λ h. all_zipped CanDo (IsWhole r.depth) r.queries (cut r.depth h.challenges) (all_do r.queries can.asked h.can) (can.blocks h.challenges h.drawn))
         (λ h status refused. let none = none_refused 1 r.queries h.can in absurd (let both = sym none ∙ refused in cc)) can.short

@@ -7,7 +7,7 @@ ghost use Rattle.sip_vector.specs.declared.update.Update.{Update as AnyUpdate};
 ghost use Rattle.sip_wire.specs.Versions.{deepest};
 ghost use Rattle.sip_verifier.specs.AskClause.{AskClause};
 ghost use Rattle.sip_verifier.specs.runs.Askers.{Asks};
-ghost use Rattle.sip_verifier.specs.Snapshots.{sink};
+ghost use Rattle.sip_verifier.specs.Snapshots.{span};
 ghost use Rattle.sip_questions.specs.Questions.{asking};
 ghost use Rattle.sip_questions.specs.Sittings.{CanAsk, StandsAt, ask_at, nodes_at, places_at};
 ghost use Rattle.sip_questions.specs.Sittings.{query_given, question_at, stated};
@@ -67,9 +67,8 @@ pub fn ask_question<L: Link, C: Sink>(
     ensures room { vec_capacity entries.old ≤ vec_capacity entries.new }
     ensures space { option_map (λ s. s.nodes) space.new ≡ option_map (λ s. s.nodes) space.old }
     ensures keeps { AskClause version
-        (sink L.talk L.faults L.wants link.old) (sink L.talk L.faults L.wants link.new)
-        (sink C.talk C.faults C.wants keep.old) (sink C.talk C.faults C.wants keep.new)
-        result }
+        (span L.talk L.faults L.wants link.old link.new)
+        (span C.talk C.faults C.wants keep.old keep.new) result }
     ensures link { Lasts L.faults L.wants L.is_sure link.old link.new }
     ensures keep { Lasts C.faults C.wants C.is_sure keep.old keep.new }
 {
