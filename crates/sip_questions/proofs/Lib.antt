@@ -1,5 +1,6 @@
 mod ByKind
 mod EnoughRoom
+mod HelperKept
 mod NextAsked
 mod QuestionsLeft
 mod Refusals

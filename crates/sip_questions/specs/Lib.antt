@@ -6,3 +6,4 @@ pub mod Promises
 pub mod Serving
 pub mod Examples
 pub mod LawProofs
+pub mod inside

@@ -87,6 +87,16 @@ step s refused m = record s { helper = turns.step s.helper refused m }
 
 -- ---- the reply that is owed
 
+-- a reply is owed
+abbrev pub owes : QuestionHelper → Bool
+owes s = elim s.sought [
+  | Some l ↦ true
+  | None ↦ elim s.moment [
+    | Some o ↦ moments.owes (as_moments s)
+    | None ↦ turns.owes s.helper
+  ]
+]
+
 -- the messages of the reply that is owed: the place of a lookup, or what the open moment or the
 -- open query is owed
 abbrev pub owed_messages : QuestionHelper → List Message

@@ -9,7 +9,10 @@
 //! `sip_verifier::Running` keeps. `sip_verifier::conclude_run` drives it, and writes the lines;
 //! what such a run promises is [`laws`]. [`ask_question`] asks one question by itself.
 //!
-//! So far no command asks so, and of the helper there are the turns alone, worked out on examples.
+//! [`serve_questions`] is the helper's end of such a talk: it takes turns, each of them a message
+//! that may come and then its reply, and its status says where it stopped (`ServesQuestions`).
+//!
+//! So far no command asks so, and none serves so.
 //!
 //! # The definitions to read
 //!
@@ -32,8 +35,10 @@ pub mod examples;
 pub mod laws;
 mod question;
 mod seat;
+mod serving;
 
 pub use asker::{QuestionAsker, QuestionGiven};
 pub use asking::ask_question;
 pub use question::Question;
 pub use seat::QuestionSeat;
+pub use serving::{QuestionCore, serve_questions};

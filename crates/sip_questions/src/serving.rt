@@ -1,0 +1,277 @@
+//! The helper's end of a talk of questions.
+
+ghost use Rattle.std.specs.Prelude.{◌≡◌, ◌≢◌, ◌<◌, ◌⊎◌, Bool, IfSome, IsOk, IsTrue, None, OnErr};
+ghost use Rattle.std.specs.Prelude.{OnOk, Some, ◌↔◌, false};
+ghost use Rattle.sip_ports.specs.Ports.{HasCause, Lasts, Rose, SendsWhole};
+ghost use Rattle.sip_wire.specs.declared.message.Message.TheVariants as messages;
+ghost use Rattle.sip_wire.specs.declared.version.Version.TheVariants.{Two};
+ghost use Rattle.sip_wire.specs.Spelling.{fits};
+ghost use Rattle.sip_helper.specs.Turns.{depth_of};
+ghost use Rattle.sip_moments.specs.Serving.{may_follow};
+ghost use Rattle.sip_questions.specs.Serving.{ServesQuestions, after_answer, fresh_questions};
+ghost use Rattle.sip_questions.specs.Serving.{idle_depth, is_allowed, owed, owes, step};
+ghost use Rattle.sip_questions.specs.inside.Keeping.{questions_left};
+
+use sip_helper::{HelpStatus, HelperCore, Helps, OutOfTurn, WANT_OF_MEMORY, put_refusal, talk};
+use sip_lookup::{Lookup, honest_place, lookup_of, put_place};
+use sip_moments::{LEAST_DEGREE, MomentUnderWay, is_too_high, side_of};
+use sip_ports::{Link, PortStop, Sink};
+use sip_vector::{Depth, Side};
+use sip_wire::{MOST_DEGREE, MOST_QUERIES, Message, Place, Version};
+use std::alloc::Global;
+use std::marker::Model;
+
+/// What a helper of questions knows.
+///
+/// It hears the stream and queries as a [`HelperCore`] does, and what is asked of the same vectors
+/// besides.
+#[derive(Drop)]
+pub struct QuestionCore {
+    alloc: Global,
+    core: HelperCore,
+    // How many lookups were asked, and the one whose place is owed.
+    lookups: u8,
+    sought: Option<Lookup>,
+    // How many moments were asked, and the one that is open.
+    moments: u8,
+    moment: Option<MomentUnderWay>,
+}
+
+impl Model for QuestionCore {
+    ghost use Rattle.std.specs.Option.{option_map};
+    ghost use Rattle.sip_moments.specs.UnderWay.{open_of};
+    ghost use Rattle.sip_questions.specs.Serving.{QuestionHelper};
+    ghost use Rattle.sip_questions.specs.inside.Keeping.{IsCoherent};
+
+    ghost Value = { QuestionHelper };
+
+    ghost view = { λ h. record {
+      helper = h.core;
+      lookups = h.lookups;
+      sought = h.sought;
+      moments = h.moments;
+      moment = option_map open_of h.moment;
+    } };
+
+    ghost invariant = { λ h. IsCoherent h.core h.lookups h.sought h.moments h.moment };
+}
+
+impl QuestionCore {
+    /// A helper that has heard nothing. It takes no memory yet.
+    pub fn new(alloc: Global) -> QuestionCore
+        ensures { result ≡ fresh_questions }
+    {
+        QuestionCore {
+            alloc,
+            core: HelperCore::new(alloc),
+            lookups: 0,
+            sought: None,
+            moments: 0,
+            moment: None,
+        }
+    }
+
+    /// The depth of a stream that has ended, where no query and no moment is open.
+    fn idle(&self) -> Option<Depth>
+        ensures { result ≡ idle_depth self.now }
+    {
+        if self.core.query_open() || self.moment.is_some() {
+            return None;
+        }
+        self.core.whole()
+    }
+
+    /// Takes a lookup, where it may be asked: its place is owed then.
+    fn seek(&mut self, code: u8, item: u64) -> Result<(), OutOfTurn>
+        ensures turn { IsOk result ↔ IsTrue (is_allowed self.old (messages.AskLook code item)) }
+        ensures asked { OnOk result
+            (self.new ≡ step self.old false (messages.AskLook code item)) }
+        ensures same { OnErr result (self.new ≡ self.old) }
+    {
+        let Some(depth) = self.idle() else {
+            return Err(OutOfTurn);
+        };
+        if self.lookups >= MOST_QUERIES as u8 {
+            return Err(OutOfTurn);
+        }
+        if item >= 1 << depth.get() {
+            return Err(OutOfTurn);
+        }
+        let Some(lookup) = lookup_of(code, item) else {
+            return Err(OutOfTurn);
+        };
+        self.lookups += 1;
+        self.sought = Some(lookup);
+        Ok(())
+    }
+
+    /// Takes a moment, where it may be asked, and the memory that its replies want.
+    fn pose(&mut self, number: u8, degree: u8) -> Result<(), OutOfTurn>
+        ensures turn { IsOk result
+            ↔ IsTrue (is_allowed self.old (messages.AskMoment number degree)) }
+        ensures asked { OnOk result ((refused : Bool)
+            × (self.new ≡ step self.old refused (messages.AskMoment number degree))) }
+        ensures same { OnErr result (self.new ≡ self.old) }
+    {
+        let Some(depth) = self.idle() else {
+            return Err(OutOfTurn);
+        };
+        if self.moments >= MOST_QUERIES as u8 || degree < LEAST_DEGREE || degree > MOST_DEGREE {
+            return Err(OutOfTurn);
+        }
+        let Some(side) = side_of(number) else {
+            return Err(OutOfTurn);
+        };
+        if is_too_high(self.core.weight(side), degree) {
+            return Err(OutOfTurn);
+        }
+        let moment = MomentUnderWay::begin(self.alloc, &self.core, depth, side, degree);
+        self.moment = Some(moment);
+        self.moments += 1;
+        Ok(())
+    }
+
+    /// Takes a challenge while a moment is open: no other message may come then, but a Bye.
+    fn learn(&mut self, message: &Message) -> Result<(), OutOfTurn>
+        requires open { self.old.moment ≢ None }
+        requires fits { IsTrue (fits Two message.now) }
+        ensures turn { IfSome self.old.moment (λ o. IsOk result
+            ↔ IsTrue (may_follow (depth_of self.old.helper.heard) o message.now)) }
+        ensures heard { OnOk result (self.new ≡ step self.old false message.now) }
+        ensures stream { OnOk result (self.new.helper ≡ self.old.helper) }
+        ensures fewer { OnOk result (questions_left self.new < questions_left self.old) }
+        ensures same { OnErr result (self.new ≡ self.old) }
+    {
+        let Some(moment) = &mut self.moment else {
+            return Err(OutOfTurn);
+        };
+        let Some(depth) = self.core.whole() else {
+            return Err(OutOfTurn);
+        };
+        match message {
+            Message::Reveal { challenge } => moment.reveal(depth.get(), *challenge),
+            _ => Err(OutOfTurn),
+        }
+    }
+
+    /// Says the place of a lookup's answer, or refuses for want of memory.
+    fn say_place<K: Sink>(&mut self, lookup: Lookup, out: &mut K) -> Result<(), PortStop>
+        requires sought { self.old.sought ≡ Some lookup }
+        ensures talk { SendsWhole (K.talk out.old) (K.talk out.new) result (owed self.old) }
+        ensures given { OnOk result (self.new ≡ after_answer self.old) }
+        ensures cause { HasCause K.faults K.wants K.is_sure out.old out.new result }
+    {
+        self.sought = None;
+        let version = self.core.spoken();
+        let Some(vector) = self.core.vector(Side::First) else {
+            return put_refusal(version, WANT_OF_MEMORY, out);
+        };
+        put_place(version, honest_place(vector, lookup), out)
+    }
+
+    /// Sends the reply that is owed about the open moment.
+    fn say_round<K: Sink>(&mut self, out: &mut K) -> Result<(), PortStop>
+        requires none { self.old.sought ≡ None }
+        requires open { self.old.moment ≢ None }
+        requires owes { IsTrue (owes self.old) }
+        ensures talk { SendsWhole (K.talk out.old) (K.talk out.new) result (owed self.old) }
+        ensures given { OnOk result (self.new ≡ after_answer self.old) }
+        ensures cause { HasCause K.faults K.wants K.is_sure out.old out.new result }
+    {
+        let Some(moment) = &self.moment else {
+            return Ok(());
+        };
+        moment.put_reply(self.core.spoken(), out)?;
+        let Some(depth) = self.core.whole() else {
+            return Ok(());
+        };
+        self.moment = match self.moment.take() {
+            Some(moment) => moment.after_reply(depth.get()),
+            None => None,
+        };
+        Ok(())
+    }
+}
+
+impl Helps for QuestionCore {
+    ghost use Rattle.std.specs.Prelude.{not};
+    ghost use Rattle.sip_questions.specs.Serving.{owes, question_rules};
+    ghost use Rattle.sip_questions.specs.inside.Keeping.{questions_left};
+
+    ghost rules = { question_rules };
+
+    ghost turns_left = { questions_left };
+
+    ghost is_live = { λ s. not s.helper.spent };
+
+    ghost is_owing = { owes };
+
+    fn version_due(&self) -> Version {
+        self.core.spoken()
+    }
+
+    fn place_due(&self) -> Place {
+        Place::AskedQuestion
+    }
+
+    fn take(&mut self, message: &Message) -> Result<(), OutOfTurn> {
+        match message {
+            Message::AskLook { code, item } => self.seek(*code, *item),
+            Message::AskMoment { side, degree } => self.pose(*side, *degree),
+            Message::Bye => self.core.hear(message),
+            _ => {
+                if self.moment.is_some() {
+                    return self.learn(message);
+                }
+                self.core.hear_on(message)
+            }
+        }
+    }
+
+    fn owes_reply(&self) -> bool {
+        match (&self.sought, &self.moment) {
+            (Some(_), _) => true,
+            (None, Some(moment)) => moment.is_owed(),
+            (None, None) => self.core.owes(),
+        }
+    }
+
+    fn is_over(&self) -> bool {
+        self.core.done()
+    }
+
+    fn send_reply<K: Sink>(&mut self, out: &mut K) -> Result<(), PortStop> {
+        if let Some(lookup) = self.sought {
+            return self.say_place(lookup, out);
+        }
+        if self.moment.is_some() {
+            return self.say_round(out);
+        }
+        self.core.answer(out)
+    }
+}
+
+/// Hears a talk of questions and answers, until a Bye. Frames are in the version of the opening,
+/// and in version 1 up to it.
+///
+/// The stream and queries are heard as by `sip_helper::serve`. Behind the stream, where neither a
+/// query nor a moment is open, a lookup and a moment may be asked too, up to 16 of each. To a
+/// lookup the place of its answer goes out, or a refusal where memory was refused while the stream
+/// was heard; nothing is open behind it, so the query about its interval is one of the 16 queries.
+/// To a moment the claim and the first round polynomial go out, and behind each challenge the next
+/// polynomial, until the last one closes it; nothing but a challenge and a Bye may come before.
+///
+/// Memory is taken for one frame, which comes first, for the two vectors, and for what the replies
+/// to a query or about a moment are made from; a place takes none. Where there is none for the
+/// frame the link is left alone; from then on `OutOfMemory` comes only where the link's count of
+/// wants rose.
+pub fn serve_questions<L: Link>(alloc: Global, link: &mut L) -> HelpStatus
+    ensures serves { ServesQuestions (L.talk link.old) (L.talk link.new) result }
+    ensures cause { result ≡ HelpStatus.PeerFault
+        → Rose (L.faults link.old) (L.faults link.new) }
+    ensures memory { result ≡ HelpStatus.OutOfMemory
+        → (link.new ≡ link.old) ⊎ Rose (L.wants link.old) (L.wants link.new) }
+    ensures lasts { Lasts L.faults L.wants L.is_sure link.old link.new }
+{
+    talk(QuestionCore::new(alloc), alloc, link)
+}
