@@ -25,3 +25,4 @@ pub mod RespelledRuns
 pub mod RespelledVerdicts
 pub mod AuditEnds
 pub mod AlikeAudits
+pub mod Credits

@@ -17,3 +17,4 @@ pub mod Auditing
 pub mod Replayed
 pub mod Agreements
 pub mod AlikeAudits
+pub mod Credits

@@ -9,12 +9,15 @@ ghost use Rattle.sip_ports.specs.Ports.{Lasts};
 ghost use Rattle.sip_vector.specs.declared.update.Update.{Update as AnyUpdate};
 ghost use Rattle.sip_wire.specs.Table.{is_element, most_queries};
 ghost use Rattle.sip_verifier.specs.Concluding.{Reports};
+ghost use Rattle.sip_verifier.specs.Gathering.{legal};
+ghost use Rattle.sip_verifier.specs.Negatives.{NegativesClause, heavy_negatives};
 ghost use Rattle.sip_verifier.specs.Snapshots.{Counts as AnyCounts, PortState, counts, port};
 ghost use Rattle.sip_verifier.specs.Snapshots.{snapshot};
 ghost use Rattle.sip_verifier.specs.QuerySeats.{StandsFor};
 ghost use Rattle.sip_verifier.specs.Statuses.{FaultClause, Stops, stops_asking};
 ghost use Rattle.sip_transcript.specs.Auditing.{Audit, AuditClause, Audits, EndsAudit};
 ghost use Rattle.sip_transcript.specs.Auditing.{stops_auditing};
+ghost use Rattle.sip_transcript.specs.Credits.{StoredNegatives, stored_task};
 ghost use Rattle.sip_transcript.specs.Heads.{Ask, Says};
 ghost use Rattle.sip_transcript.specs.Replayed.{AreAsked, Begins, EndsBy, IsReplayed, TellsBehind};
 ghost use Rattle.sip_transcript.specs.Replayed.{judged};
@@ -27,6 +30,7 @@ use arrayvec::ArrayVec;
 use sip_field::{Field, M61};
 use sip_ports::{NullSink, Sink, Source};
 use sip_stream::Form;
+use sip_vector::Negatives;
 use sip_verifier::{Port, Seats, Session, SessionStart, Status, Task, conclude_session, follow};
 use sip_wire::Version;
 use std::alloc::Global;
@@ -46,7 +50,7 @@ fn elements(challenges: &[u64]) -> ArrayVec<M61, MOST_CHALLENGES>
 }
 
 /// The session of a head's queries at their challenges, over the stream of `first`, which is read
-/// to its end. What a run sends of it goes nowhere.
+/// to its end, and which of its sides had a delta below 0. What a run sends of it goes nowhere.
 #[inline(never)]
 fn begin<A: Source>(
     alloc: Global,
@@ -54,6 +58,7 @@ fn begin<A: Source>(
     task: &Task,
     challenges: &[u64],
     first: &mut A,
+    negatives: &mut Negatives,
 ) -> Result<Box<Session>, Status>
     requires { (asks : List Ask) × AreAsked version task.now challenges.now asks }
     ensures begins { (bytes : List ℕ) → A.left first.old ≡ Some bytes → MatchResult result
@@ -61,6 +66,9 @@ fn begin<A: Source>(
         (Ok session.value))
         (λ status. Begins version task.now challenges.now bytes (A.left first.new)
         (Err status)) }
+    ensures negatives { (bytes : List ℕ) → A.left first.old ≡ Some bytes → MatchResult result
+        (λ _. negatives.new ≡ heavy_negatives task.now.queries.items (legal task.now bytes))
+        (λ status. NegativesClause task.now bytes status negatives.new) }
     ensures count { IfOk result
         (λ session. length session.value.left ≡ length task.now.queries.items) }
     ensures live { IfOk result (λ session. session.value.spent ≡ false) }
@@ -72,7 +80,9 @@ fn begin<A: Source>(
 {
     let elements = elements(challenges);
     let mut seats = Seats::given(task.depth, &task.queries, &elements);
-    follow(task, &mut seats, first, &mut NullSink::new())?;
+    *negatives = Negatives::default();
+    let weights = follow(task, &mut seats, first, &mut NullSink::new())?;
+    *negatives = seats.heavy_negatives(&weights);
     match Session::boxed(alloc, version, seats) {
         Ok(session) => Ok(session),
         Err(SessionStart::TooWide { query }) => Err(Status::TooWide { query }),
@@ -188,12 +198,16 @@ fn check<A: Source, B: Source, K: Sink>(
     first: &mut A,
     second: &mut B,
     report: &mut K,
+    negatives: &mut Negatives,
 ) -> Status
     requires { (asks : List Ask) × Says head asks }
     ensures audits { (asks : List Ask) (a : Audit) (before now : AnyCounts) → Says head asks
         → TellsBehind head.version head.depth asks a (A.left first.old) (A.left first.new)
         (B.left second.old) (B.left second.new) (K.talk report.old) (K.talk report.new)
         → FaultClause before now result → Audits form a before now result }
+    ensures negatives { (asks : List Ask) (bytes : List ℕ) → Says head asks
+        → A.left first.old ≡ Some bytes
+        → NegativesClause (stored_task form head.depth asks) bytes result negatives.new }
     ensures wrote { IsSome (A.left first.old)
         → Reports (K.talk report.old) (K.talk report.new) }
     ensures fault { (peer peers keep keeps : ℕ) → FaultClause
@@ -219,7 +233,7 @@ fn check<A: Source, B: Source, K: Sink>(
         form,
         queries,
     };
-    let mut session = match begin(alloc, version, &task, &challenges, first) {
+    let mut session = match begin(alloc, version, &task, &challenges, first, negatives) {
         Ok(session) => session,
         Err(status) => return status,
     };
@@ -239,12 +253,16 @@ fn check<A: Source, B: Source, K: Sink>(
 /// where a field of the head is not there, and nothing is written then; or where a byte follows
 /// those that the verdicts took, behind their lines. `BadStream` and `TooWide` come as they do in a
 /// run. `ReadFault` and `WriteFault` come only where the count of faults of that port rose.
+///
+/// `negatives` gets which sides of the stream had a delta below 0, of those whose large entries the
+/// head asks for, as a run tells it.
 pub fn audit<A: Source, B: Source, K: Sink>(
     alloc: Global,
     form: Form,
     first: &mut A,
     second: &mut B,
     report: &mut K,
+    negatives: &mut Negatives,
 ) -> Status
     ensures keeps { (peer peers keep keeps : PortState TalkEvent) → AuditClause form
         (snapshot (port A.left A.faults first.old) (port B.left B.faults second.old) peer
@@ -252,12 +270,18 @@ pub fn audit<A: Source, B: Source, K: Sink>(
         (snapshot (port A.left A.faults first.new) (port B.left B.faults second.new) peers
         (port K.talk K.faults report.new) keeps)
         result }
+    ensures negatives { (bytes stored : List ℕ)
+        → A.left first.old ≡ Some bytes → B.left second.old ≡ Some stored
+        → StoredNegatives form bytes stored result negatives.new }
     ensures first { Lasts A.faults A.wants A.is_sure first.old first.new }
     ensures second { Lasts B.faults B.wants B.is_sure second.old second.new }
     ensures report { Lasts K.faults K.wants K.is_sure report.old report.new }
 {
     match TranscriptReader::head(second) {
-        Ok(head) => check(alloc, form, head, first, second, report),
-        Err(fault) => status_of_head(fault),
+        Ok(head) => check(alloc, form, head, first, second, report, negatives),
+        Err(fault) => {
+            *negatives = Negatives::default();
+            status_of_head(fault)
+        }
     }
 }

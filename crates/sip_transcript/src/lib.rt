@@ -33,7 +33,8 @@
 //!   definitions: over the stored stream, the head's queries and challenges, and the bytes behind
 //!   the head, whose end is that of the link. With a verdict both files were read to their ends;
 //!   `BadTranscript` comes where a field of the head is not there, or where bytes follow those that
-//!   a verdict took, with that place.
+//!   a verdict took, with that place. Which sides had a delta below 0, of those whose large entries
+//!   the head asks for, it tells as a run does, by the same clause.
 //! - The transcript of each run has no fault in its head, whatever the replies are, and it tells
 //!   that run ([`laws`]), and no other. Two accepted runs of one inquiry over one stream that heard
 //!   the same wrote the same lines. A transcript by hand has the listing that is expected.
@@ -53,8 +54,8 @@
 //! where they stop being a transcript; `specs/Listings.antt` the lines, `specs/Conversions.antt`
 //! the form in version 2, and `specs/Writing.antt` what `show` and `convert` promise.
 //! `specs/Replaying.antt` has what is heard on a link over a source, `specs/Auditing.antt` what
-//! `audit` promises, `specs/Agreements.antt` what it comes to over what a run left, and
-//! `specs/AlikeAudits.antt` over that in version 2.
+//! `audit` promises, `specs/Credits.antt` what it tells of deltas below 0, `specs/Agreements.antt`
+//! what it comes to over what a run left, and `specs/AlikeAudits.antt` over that in version 2.
 #![tactic(auto)]
 
 mod auditing;

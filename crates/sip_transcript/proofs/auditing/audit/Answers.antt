@@ -1,11 +1,18 @@
 -- The head was read, and the rest of the audit is what was done behind it; or it was not read.
-use Rattle.std.proofs.Common.{Err, [], le_refl, ap, ◌∙◌}
+use Rattle.std.specs.Prelude.{length}
+use Rattle.std.proofs.Common.{◌≡◌, Err, [], le_refl, ap, sym, inr, rules, ◌∙◌}
 use Rattle.sip_ports.specs.Ports.{outs}
 use Rattle.sip_ports.proofs.TalkLemmas.{GoesOn-refl}
 use Rattle.sip_stream.proofs.RecordsRead.{came_front}
 use Rattle.sip_wire.specs.Transcript.{transcript}
+use Rattle.sip_verifier.specs.Negatives.{no_negatives}
 use Rattle.sip_verifier.proofs.RunTalks.{goes_to, nothing_reported, some_value}
+use Rattle.sip_transcript.specs.Fields.{head_fault}
 use Rattle.sip_transcript.specs.declared.fault.HeadFault.{HeadFault}
+use Rattle.sip_transcript.proofs.Credits.{head_unjudged}
+use Rattle.sip_transcript.proofs.Growing.{run-has_no_fault}
+use Rattle.sip_transcript.proofs.Telling.{one_head}
+use Rattle.sip_transcript.proofs.Tests.{count-test, depth-test}
 use Rattle.sip_transcript.proofs.Audited.{head_audits, head_caused, since_earlier, transcript_from}
 use Rattle.sip_transcript.proofs.auditing.audit.Goals as goal
 
@@ -55,4 +62,27 @@ returns-in-Err-clause-keeps g c = λ peer peers keep keeps.
           );
       fault = caused.0;
       listed = caused.1;
+    })
+
+pub returns-in-Ok-clause-negatives : goal.returns-in-Ok-clause-negatives
+returns-in-Ok-clause-negatives g c = λ bytes stored told had.
+    let (asks, says, taken) = c.in-Ok.ensures.reads in
+    let head = c.in-Ok.head in
+    let run = says.is_run in
+    let came = came_front (g.B.Source.left c.args.second.now) (g.B.Source.left c.head.new.source) stored (transcript head.version head.depth asks []) had taken in
+    let is = came.2 ∙ transcript_from head.version head.depth asks came.0 in
+    record {
+      run = λ version depth others behind other same.
+          let one = one_head head.version version head.depth depth asks others came.0 behind run.each other.each (sym is ∙ same) in
+          rw (one.1, one.2) (c.check.ensures.negatives asks bytes says told);
+      unread = λ faulty. absurd (faulty (ap head_fault is ∙ run-has_no_fault head.version head.depth asks came.0 (depth-test head.version head.depth run.deep run.shallow) (count-test (length asks) run.some run.most) run.each));
+    }
+
+pub returns-in-Err-clause-negatives : goal.returns-in-Err-clause-negatives
+returns-in-Err-clause-negatives g c = λ bytes stored told had.
+    let none : c.default.result ≡ no_negatives = search rules in
+    rw c.status_of_head.ensures
+    (record {
+      run = λ version depth asks behind run same. record { judged = λ judged. absurd (head_unjudged c.in-Err.fault judged); other = inr none };
+      unread = λ faulty. none;
     })

@@ -8,6 +8,8 @@ use Rattle.sip_verifier.proofs.SeatedBehind.{seats_left}
 use Rattle.sip_transcript.specs.Auditing.{is_verdict, stops_auditing}
 use Rattle.sip_transcript.specs.Replayed.{AreAsked, judged}
 use Rattle.sip_transcript.proofs.Audited.{all_read, ends, its_replay, judged_fault, no_verdict, not_begun, place_of, place_sum, replayed_as, since_earlier, verdict_needs_none, with_verdict}
+use Rattle.sip_verifier.proofs.RunNegatives.{of_gathered}
+use Rattle.sip_transcript.proofs.Credits.{of_head}
 use Rattle.sip_transcript.proofs.Tests.{or_second}
 use Rattle.sip_transcript.proofs.auditing.check.Goals as goal
 
@@ -93,3 +95,20 @@ returns-clause-listed g c =
     let own = judged_fault 0 0 0 0 (g.B.Source.faults c.args.second.now) (g.B.Source.faults c.replay_lent-ended.new.source) (g.K.Sink.faults c.args.report.now) (g.K.Sink.faults c.replay_lent-ended.new.report)
     0 0 0 0 c.replay_lent-ended.result.0 c.in-Err-judged.status (sym c.judged.ensures ∙ c.in-Err-judged.is) (c.replay_lent-ended.ensures.fault 0 0 0 0) in
     or_second (is_verdict c.in-Err-judged.status) (stops_auditing c.in-Err-judged.status) own.0
+
+-- what the stream told of deltas below 0, whatever came of its queries
+
+pub returns-in-Err-clause-negatives : goal.returns-in-Err-clause-negatives
+returns-in-Err-clause-negatives g c = λ asks bytes says told.
+    let head = c.args.head in
+    of_head c.args.form head.depth head.queries.items _ bytes c.in-Err.status _ says.queries (c.in-Err.ensures.negatives bytes told)
+
+pub returns-in-Ok-judged-clause-negatives : goal.returns-in-Ok-judged-clause-negatives
+returns-in-Ok-judged-clause-negatives g c = λ asks bytes says told.
+    let head = c.args.head in
+    of_head c.args.form head.depth head.queries.items _ bytes c.end.result _ says.queries (of_gathered _ bytes c.end.result _ (c.in-Ok.ensures.negatives bytes told))
+
+pub returns-clause-negatives : goal.returns-clause-negatives
+returns-clause-negatives g c = λ asks bytes says told.
+    let head = c.args.head in
+    of_head c.args.form head.depth head.queries.items _ bytes c.in-Err-judged.status _ says.queries (of_gathered _ bytes c.in-Err-judged.status _ (c.in-Ok.ensures.negatives bytes told))
