@@ -1,11 +1,11 @@
 -- What an audit tells of deltas below 0 is what a run of the transcript's queries tells.
-use Rattle.std.proofs.Common.{◌≡◌, ℕ, List, false, true, inr, refl, subst}
+use Rattle.std.proofs.Common.{◌≡◌, ℕ, List, false, true, subst}
 use Rattle.std.specs.Prelude.{IsTrue}
 use Rattle.sip_stream.specs.declared.form.Form.{Form}
 use Rattle.sip_vector.specs.declared.query.Query.{Query}
 use Rattle.sip_vector.specs.declared.tally.Negatives.{Negatives}
 use Rattle.sip_verifier.specs.declared.status.Status.{Status}
-use Rattle.sip_verifier.specs.Negatives.{NegativesClause, is_judged, no_negatives}
+use Rattle.sip_verifier.specs.Negatives.{NegativesClause, is_judged}
 use Rattle.sip_transcript.specs.declared.fault.HeadFault.{HeadFault}
 use Rattle.sip_transcript.specs.declared.fault.HeadFault.TheVariants.{Bad, OutOfMemory, ReadFault}
 use Rattle.sip_transcript.specs.Causes.{status_of_head}

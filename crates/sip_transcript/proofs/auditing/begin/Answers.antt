@@ -8,7 +8,6 @@ use Rattle.sip_stream.proofs.LegalRecords.{records_legal}
 use Rattle.sip_vector.specs.Pieces.{cut}
 use Rattle.sip_vector.specs.declared.query.Query.{Query}
 use Rattle.sip_verifier.specs.Gathering.{legal}
-use Rattle.sip_verifier.specs.Negatives.{heavy_negatives}
 use Rattle.sip_verifier.specs.Seats.{AreSeats}
 use Rattle.sip_verifier.specs.declared.session.SessionStart.{SessionStart}
 use Rattle.sip_verifier.specs.declared.session.SessionStart.TheVariants as starts
