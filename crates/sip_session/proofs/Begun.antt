@@ -4,6 +4,7 @@ use Rattle.std.proofs.Math.Nat.{mul-pos, mul_comm}
 use Rattle.std.specs.Prelude.{IfErr, IsTrue}
 use Rattle.sip_ports.specs.Ports.{Rose}
 use Rattle.sip_ports.proofs.FaultLemmas.{Rose-positive}
+use Rattle.sip_vector.specs.declared.tally.Negatives.{Negatives}
 use Rattle.sip_vector.specs.Limits.{most_depth}
 use Rattle.sip_verifier.specs.declared.session.SessionStart.{SessionStart}
 use Rattle.sip_verifier.specs.declared.session.SessionStart.TheVariants as starts
@@ -13,6 +14,7 @@ use Rattle.sip_verifier.specs.declared.status.Status.TheVariants as statuses
 use Rattle.sip_verifier.specs.declared.task.Task.{Task}
 use Rattle.sip_verifier.specs.Gathering.{legal}
 use Rattle.sip_verifier.specs.inside.Ending.{status_of_start}
+use Rattle.sip_verifier.specs.Negatives.{NegativesClause, gathered_negatives}
 use Rattle.sip_verifier.specs.Snapshots.{Counts, counts}
 use Rattle.sip_verifier.specs.QuerySeats.{Seated}
 use Rattle.sip_verifier.specs.Seats.{Seating}
@@ -24,6 +26,7 @@ use Rattle.sip_verifier.specs.Widths.{is_wide_seat}
 use Rattle.sip_wire.specs.declared.version.Version.{Version}
 use Rattle.sip_wire.specs.Table.{most_queries}
 use Rattle.sip_verifier.proofs.KeptHead.{following_gathers}
+use Rattle.sip_verifier.proofs.RunNegatives.{of_gathered, of_stopped}
 use Rattle.sip_verifier.proofs.RunPromises.{gathering_listed}
 use Rattle.sip_session.specs.inside.Beginning.{Begins, GathersAll, IsHeard, by_query, task_of_seats}
 use Rattle.sip_session.specs.inside.Hearing.{AllTalks, Each, IsPassedInPart}
@@ -207,6 +210,24 @@ begun_listed helpers version gathered status before now
     (inr (seats, starts.OutOfMemory, is, none, same)) stops =
     subst (λ (s : Status). IsListed (by_query helpers s)
     × FaultClause before now (by_query helpers s)) (sym same) (refl, tt)
+
+-- what it tells of deltas below 0 is what was gathered
+pub begun_negatives : (helpers : ℕ) (wide : Task) (bytes : List ℕ) (version : Version)
+    (gathered : Result Seating Status) (status : Status) (negatives : Negatives)
+    → NoSession version gathered status → IfErr gathered (λ s. IsTrue (stops_gathering s))
+    → negatives ≡ gathered_negatives wide bytes gathered
+    → NegativesClause wide bytes (by_query helpers status) negatives
+begun_negatives helpers wide bytes version gathered status negatives (inl is) listed are =
+    let known =
+    subst (λ (r : Result Seating Status). IfErr r (λ s. IsTrue (stops_gathering s))) is listed in
+    let none =
+    subst (λ (r : Result Seating Status). negatives ≡ gathered_negatives wide bytes r) is are in
+    subst (λ (s : Status). NegativesClause wide bytes s negatives)
+    (sym (same_named helpers status known)) (of_stopped wide bytes status negatives known none)
+begun_negatives helpers wide bytes version gathered status negatives
+    (inr (seats, start, is, starts, same)) listed are =
+    of_gathered wide bytes (by_query helpers status) negatives
+    (subst (λ (r : Result Seating Status). negatives ≡ gathered_negatives wide bytes r) is are)
 
 -- seats are counted from 1
 pub begun_counted : (version : Version) (gathered : Result Seating Status) (status : Status)

@@ -2,7 +2,7 @@
 -- is
 -- what it did on one.
 use Rattle.std.proofs.Common.{◌≡◌, ◌≢◌, ℕ, ◌+◌, ◌<◌, ◌⊎◌, List, [], ◌∷◌, ◌++◌, length, take, get_or, Option, Some, None, Result, Ok, Err, inl, inr, refl, sym, ap, ◌∙◌, subst, arith, take_all, take_at, append-nil, append_assoc, length-append, true}
-use Rattle.std.specs.Prelude.{IfOk, IsTrue, if◌then◌else◌}
+use Rattle.std.specs.Prelude.{IsTrue, if◌then◌else◌}
 use Rattle.std.proofs.Math.Seq.{take-append-add}
 use Rattle.std.proofs.lemmas.Bool.{cases_lt, eq-eqb, ne_eqb}
 use Rattle.std.proofs.lemmas.List.{take-append-le}
@@ -25,6 +25,7 @@ use Rattle.sip_verifier.specs.declared.status.Port.TheVariants as ports
 use Rattle.sip_verifier.specs.declared.status.Status.{Status}
 use Rattle.sip_verifier.specs.declared.status.Status.TheVariants as statuses
 use Rattle.sip_verifier.specs.declared.task.Task.{Task}
+use Rattle.sip_verifier.specs.declared.weights.Weights.{Weights}
 use Rattle.sip_verifier.specs.Draws.{blocks}
 use Rattle.sip_verifier.specs.Feeding.{due_at_end, due_with, fills, waiting_with}
 use Rattle.sip_verifier.specs.Gathering.{IsCut, IsPassedOn}
@@ -34,11 +35,10 @@ use Rattle.sip_verifier.specs.inside.Passing.{taken_with}
 use Rattle.sip_verifier.specs.inside.Sending.{IsSentBut, IsStopped}
 use Rattle.sip_verifier.specs.Snapshots.{counts}
 use Rattle.sip_verifier.specs.Seats.{AreSeats, Seating}
-use Rattle.sip_verifier.specs.Statuses.{FaultClause, Stops, stops_following}
+use Rattle.sip_verifier.specs.Statuses.{FaultClause, stops_following}
 use Rattle.sip_verifier.specs.Tasks.{version_of}
 use Rattle.sip_verifier.specs.Talks.{stream_sent}
 use Rattle.sip_verifier.proofs.Gathered.{IsUnderway, begins, goes_on, goes_on_many, passed_on, reading_stops, refuses, stops_after, stops_at_end, stops_first}
-use Rattle.sip_verifier.proofs.QueriesChecked.{OnLink}
 use Rattle.sip_verifier.proofs.StreamSending as sending
 use Rattle.sip_verifier.proofs.StreamSending.{at_end, one_more, opened, stopped, stopped_in_opening}
 use Rattle.sip_session.specs.inside.Beginning.{GathersAll, IsHeard}
@@ -265,7 +265,8 @@ module _ (task : Task) (bytes : List ℕ) (start : List TalkEvent) (first : Seat
       (seats last : Seating) (waiting : List Update) (fault : StreamFault)
       (so : IsUnderway task bytes at_blocks left (Some start) (Some now) reader seats waiting)
       → Reads task.depth task.form so.stream so.rest left' (Err fault)
-      → HearsStream task bytes at_blocks left' last (Err (status_of_stream fault)) start now
+      → HearsStream task bytes at_blocks left' last {T = Weights} (Err (status_of_stream fault))
+      start now
   stream_stops left left' now reader seats last waiting (faults.Bad at why) so reads =
       reading_stops task bytes (Some start) first at_blocks has left left'
       (Some now) reader seats waiting (faults.Bad at why) so reads
@@ -281,38 +282,11 @@ pub link_stops : (task : Task) (bytes : List ℕ) (at_blocks : List (List ℕ)) 
     (seats : Seating) (start now : List TalkEvent) (r : Result (Unit {0}) PortStop)
     (port : PortStop) → r ≡ Err port → r ≢ Err port_stops.Failed
     → IsPassedInPart task bytes start now
-    → HearsStream task bytes at_blocks left seats (Err (status_of_link port)) start now
+    → HearsStream task bytes at_blocks left seats {T = Weights} (Err (status_of_link port)) start
+    now
 link_stops task bytes at_blocks left seats start now r port_stops.Failed is never part =
     absurd (never is)
 link_stops task bytes at_blocks left seats start now r port_stops.OutOfMemory is never part = part
-
--- the rest of the stream and its end, whatever came of sending them
-pub at_last : (task : Task) (bytes : List ℕ) (start : List TalkEvent) (first : Seating)
-    (at_blocks : List (List ℕ)) (has : AreSeats task.depth task.queries.items at_blocks [] first)
-    (left left' : Option (List ℕ)) (now new : List TalkEvent) (reader : Reading)
-    (seats seats' : Seating) (waiting : List Update)
-    (so : IsUnderway task bytes at_blocks left (Some start) (Some now) reader seats waiting)
-    (sent : Result (Unit {0}) PortStop) (r : Result (Unit {0}) Status) → OnLink sent r
-    → sent ≢ Err port_stops.Failed
-    → Reads task.depth task.form so.stream so.rest left' (Ok None)
-    → Says now new (due_at_end (version_of task) waiting) sent
-    → AreSeats task.depth task.queries.items at_blocks (so.said.sent ++ waiting) seats'
-    → HearsStream task bytes at_blocks left' seats' r start new
-at_last task bytes start first at_blocks has left left' now new reader seats seats' waiting so
-    (Ok x) (Ok y) on never reads said stand =
-    on_end task bytes start first at_blocks has left left' now new reader seats waiting so seats'
-    reads said stand
-at_last task bytes start first at_blocks has left left' now new reader seats seats' waiting so
-    (Ok x) (Err status) (port, is, same) never reads said stand = absurd cc
-at_last task bytes start first at_blocks has left left' now new reader seats seats' waiting so
-    (Err e) (Ok y) on never reads said stand = absurd cc
-at_last task bytes start first at_blocks has left left' now new reader seats seats' waiting so
-    (Err e) (Err status) (port, is, same) never reads said stand =
-    subst (λ (s : Status). HearsStream task bytes at_blocks left' seats' (Err s) start new)
-    (sym same)
-    (link_stops task bytes at_blocks left' seats' start new (Err e) port is never
-    (part_at_end task bytes start first at_blocks has left left' now new reader seats waiting so
-    seats' e reads said stand))
 
 -- so its stop is one that the stream may have, and no port failed
 pub link_listed : (first firsts : ℕ) (sent : Result (Unit {0}) PortStop) (port : PortStop)
@@ -321,20 +295,6 @@ pub link_listed : (first firsts : ℕ) (sent : Result (Unit {0}) PortStop) (port
     (counts firsts 0 0 0 0) (status_of_link port)
 link_listed first firsts sent port_stops.Failed is never = absurd (never is)
 link_listed first firsts sent port_stops.OutOfMemory is never = (refl, tt)
-
--- likewise where the last send stopped or did not
-pub last_listed : (first firsts : ℕ) (sent : Result (Unit {0}) PortStop)
-    (r : Result (Unit {0}) Status) → OnLink sent r → sent ≢ Err port_stops.Failed
-    → Stops stops_following (counts first 0 0 0 0) (counts firsts 0 0 0 0) r
-last_listed first firsts sent (Ok x) on never = tt
-last_listed first firsts sent (Err status) (port, is, same) never =
-    subst (λ (s : Status). IsTrue (stops_following s) × FaultClause (counts first 0 0 0 0)
-    (counts firsts 0 0 0 0) s) (sym same) (link_listed first firsts sent port is never)
-
--- what holds whatever came holds where it went well
-pub if_ok : {T E : Type 0} (r : Result T E) (P : Type 0) → P → IfOk r (λ _. P)
-if_ok (Ok x) P p = p
-if_ok (Err e) P p = tt
 
 -- ---- behind the draw
 
@@ -363,7 +323,7 @@ module _ (wide : Task) (bytes seed : List ℕ) (left : Option (List ℕ)) where
     -- the stream was not passed on
     pub follow_stops : (seats : Seating) (status : Status)
         → Each (λ _ o n. HearsStream wide bytes (blocks wide has.challenges) left seats
-        (Err status) o n) old new
+        {T = Weights} (Err status) o n) old new
         → GathersAll wide bytes seed left old new (Err status)
     follow_stops seats (statuses.BadStream at why) stops =
         λ k less. refuses wide bytes seed first has (Some _) (Some _) (statuses.BadStream at why)

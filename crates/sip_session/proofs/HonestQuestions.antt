@@ -12,7 +12,7 @@ use Rattle.sip_vector.specs.Streams.{IsLegal}
 use Rattle.sip_wire.specs.declared.message.Message.{Message}
 use Rattle.sip_wire.specs.declared.message.Message.TheVariants as messages
 use Rattle.sip_wire.specs.declared.version.Version.{Version}
-use Rattle.sip_wire.specs.Spelling.{fits, spelling}
+use Rattle.sip_wire.specs.Spelling.{spelling}
 use Rattle.sip_wire.specs.Table.{most_queries}
 use Rattle.sip_wire.specs.Versions.{Speaks}
 use Rattle.sip_wire.proofs.Asking.{query-fits}

@@ -10,6 +10,7 @@ pub mod Asked
 pub mod AskedLinks
 pub mod AskedOn
 pub mod Seats
+pub mod SeatNegatives
 pub mod JointPanels
 pub mod Begun
 pub mod PanelEndings

@@ -93,7 +93,7 @@ any_repeated test (suc zero) q some = or_false (test q)
 any_repeated test (suc (suc h)) q some =
     ap (λ (b : Bool). test q || b) (any_repeated test (suc h) q (omega arith)) ∙ or_itself (test q)
 
-any_seats : (test : Query → Bool) (h : ℕ) (queries : List Query) → 0 < h
+pub any_seats : (test : Query → Bool) (h : ℕ) (queries : List Query) → 0 < h
     → list_any test (seat_queries h queries) ≡ list_any test queries
 any_seats test h [] some = refl
 any_seats test h (q ∷ queries) some =

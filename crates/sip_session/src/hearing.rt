@@ -11,20 +11,21 @@ ghost use Rattle.sip_wire.specs.Spelling.{fits, spelling};
 ghost use Rattle.sip_wire.specs.Table.{most_rows};
 ghost use Rattle.sip_wire.specs.Versions.{index_width, number_of};
 ghost use Rattle.sip_verifier.specs.Feeding.{due_at_end, due_with, waiting_with};
-ghost use Rattle.sip_verifier.specs.Gathering.{AreOf};
+ghost use Rattle.sip_verifier.specs.Gathering.{AreOf, legal};
 ghost use Rattle.sip_verifier.specs.inside.Passing.{taken_with};
 ghost use Rattle.sip_verifier.specs.Snapshots.{counts};
 ghost use Rattle.sip_verifier.specs.QuerySeats.{HaveRoom};
 ghost use Rattle.sip_verifier.specs.Seats.{AreSeats};
 ghost use Rattle.sip_verifier.specs.Statuses.{Stops, stops_following};
+ghost use Rattle.sip_verifier.specs.Weights.{AreWeights};
 ghost use Rattle.sip_session.specs.inside.Hearing.{Each, HearsStream, Says, SaysAll};
 ghost use Rattle.sip_session.specs.Links.{EachLink, talks_of};
 
 use sip_duel::HelperLink;
 use sip_ports::{PortStop, Sink, Source};
 use sip_stream::Reader;
-use sip_vector::{Depth, Update};
-use sip_verifier::{Feed, Seats, Status, Task, on_link, on_stream};
+use sip_vector::{Depth, Side, Update};
+use sip_verifier::{Feed, Seats, Status, Task, Weights, on_link, on_stream};
 use sip_wire::{Message, Version, encode};
 
 /// Sends a message to a helper.
@@ -208,7 +209,7 @@ pub(crate) fn say_bye(
 }
 
 /// Opens the talk with each helper, reads the stream of `first` to its end, sends it to each and
-/// adds it to the seats.
+/// adds it to the seats. Answers the weights of the stream's sides.
 ///
 /// # Errors
 ///
@@ -220,7 +221,7 @@ pub(crate) fn follow_all<A: Source>(
     seats: &mut Seats,
     first: &mut A,
     links: &mut [HelperLink],
-) -> Result<(), Status>
+) -> Result<Weights, Status>
     requires { AreOf task.now [] seats.old }
     ensures hears { (bytes : List ℕ) (at_blocks : List (List ℕ)) → A.left first.old ≡ Some bytes
         → AreSeats task.now.depth task.now.queries.items at_blocks [] seats.old
@@ -230,6 +231,9 @@ pub(crate) fn follow_all<A: Source>(
     ensures sure { EachLink (λ _ l m. ⟦<HelperLink as Sink>⟧.is_sure l
         → ⟦<HelperLink as Sink>⟧.is_sure m) links.old links.new }
     ensures seats { IfOk result (λ _. (stream : List AnyUpdate) × AreOf task.now stream seats.new) }
+    // A helper heard the stream, so that it is known which it was.
+    ensures weights { 0 < length links.old → (bytes : List ℕ) → A.left first.old ≡ Some bytes
+        → IfOk result (AreWeights (legal task.now bytes)) }
     ensures fault { Stops stops_following (counts (A.faults first.old) 0 0 0 0)
         (counts (A.faults first.new) 0 0 0 0) result }
     ensures told { IsSome (A.left first.old) → IsSome (A.left first.new) }
@@ -247,5 +251,9 @@ pub(crate) fn follow_all<A: Source>(
         feed.take_held(&mut reader, first);
     }
     seats.update_all(feed.waiting());
-    on_link(finish_all(links, feed, version))
+    on_link(finish_all(links, feed, version))?;
+    Ok(Weights {
+        first: reader.weight(Side::First),
+        second: reader.weight(Side::Second),
+    })
 }

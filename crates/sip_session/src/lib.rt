@@ -20,6 +20,7 @@
 //! | `specs/PanelHonesty` | why honest helpers may be dropped, and what they come to |
 //! | `specs/Links` | what holds of each link, as it was and as it is now |
 //! | `specs/PanelClause` | all that [`panel`] promises, of any helpers and of honest ones |
+//! | `NegativesClause` of `sip_verifier` | which sides had a delta below 0, which it tells too |
 //!
 //! `specs/inside/` says what the private parts of a panel did. No promise rests on a reading of it.
 //!

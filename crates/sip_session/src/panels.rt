@@ -7,7 +7,10 @@ ghost use Rattle.sip_wire.specs.Table.{most_queries};
 ghost use Rattle.sip_duel.specs.Story.{IsHonestTalk};
 ghost use Rattle.sip_verifier.specs.Concluding.{status_of};
 ghost use Rattle.sip_verifier.specs.Exchanges.{TakesAtMost};
+ghost use Rattle.sip_verifier.specs.Gathering.{legal};
 ghost use Rattle.sip_verifier.specs.inside.Passing.{left};
+ghost use Rattle.sip_verifier.specs.Negatives.{NegativesClause, gathered_negatives};
+ghost use Rattle.sip_verifier.specs.Negatives.{heavy_negatives};
 ghost use Rattle.sip_verifier.specs.Snapshots.{counts};
 ghost use Rattle.sip_verifier.specs.Statuses.{FaultClause, IsListed, Stops, stops_gathering};
 ghost use Rattle.sip_verifier.specs.Tasks.{CanBeDone};
@@ -23,7 +26,7 @@ use crate::panel_asking::ask_all;
 use arrayvec::ArrayVec;
 use sip_duel::HelperLink;
 use sip_ports::{Sink, Source};
-use sip_vector::Depth;
+use sip_vector::{Depth, Negatives};
 use sip_verifier::{Port, Seats, Session, Status, Task, draw, on_link, open_session};
 use std::alloc::Global;
 
@@ -60,13 +63,15 @@ fn by_query(status: Status, helpers: u8) -> Status
 }
 
 /// Draws the challenges of all seats, and sends the stream to each helper. The seats are left in
-/// `gathered`, as they are where the steps stop.
+/// `gathered`, as they are where the steps stop, and which sides of the stream had a delta below 0
+/// in `negatives`.
 fn gather_all<A: Source, B: Source>(
     wide: &Task,
     first: &mut A,
     second: &mut B,
     links: &mut [HelperLink],
     gathered: &mut Result<Seats, Status>,
+    negatives: &mut Negatives,
 ) -> Result<(), Status>
     requires { CanBeDone wide.now }
     ensures gathers { (bytes seed : List ℕ) → A.left first.old ≡ Some bytes
@@ -74,6 +79,9 @@ fn gather_all<A: Source, B: Source>(
         → GathersAll wide.now bytes seed (A.left first.new)
         (talks_of links.old) (talks_of links.new)
         (left gathered.new result) }
+    ensures negatives { 0 < length links.old → (bytes seed : List ℕ)
+        → A.left first.old ≡ Some bytes → B.left second.old ≡ Some seed
+        → negatives.new ≡ gathered_negatives wide.now bytes (left gathered.new result) }
     ensures count { length links.new ≡ length links.old }
     ensures sure { EachLink (λ _ l m. ⟦<HelperLink as Sink>⟧.is_sure l
         → ⟦<HelperLink as Sink>⟧.is_sure m) links.old links.new }
@@ -87,9 +95,11 @@ fn gather_all<A: Source, B: Source>(
     ensures seed { TakesAtMost 32 (B.left second.old) (B.left second.new) }
     ensures second { Lasts B.faults B.wants B.is_sure second.old second.new }
 {
+    *negatives = Negatives::default();
     draw(wide, second, gathered)?;
     if let Ok(seats) = gathered {
-        follow_all(wide, seats, first, links)?;
+        let weights = follow_all(wide, seats, first, links)?;
+        *negatives = seats.heavy_negatives(&weights);
     }
     Ok(())
 }
@@ -103,6 +113,7 @@ fn begin<A: Source, B: Source>(
     first: &mut A,
     second: &mut B,
     links: &mut [HelperLink],
+    negatives: &mut Negatives,
 ) -> Result<Box<Session>, Status>
     requires done { CanBeDone wide.now }
     requires some { 0 < length links.old }
@@ -116,6 +127,11 @@ fn begin<A: Source, B: Source>(
         (λ status. Begins wide.now bytes seed (A.left first.new)
         (talks_of links.old) (talks_of links.new)
         (length links.old) (Err status)) }
+    ensures negatives { (bytes seed : List ℕ)
+        → A.left first.old ≡ Some bytes → B.left second.old ≡ Some seed
+        → MatchResult result
+        (λ _. negatives.new ≡ heavy_negatives wide.now.queries.items (legal wide.now bytes))
+        (λ status. NegativesClause wide.now bytes status negatives.new) }
     ensures left { IfOk result (λ session.
         length session.value.left ≡ length wide.now.queries.items) }
     ensures live { IfOk result (λ session. session.value.spent ≡ false) }
@@ -133,7 +149,7 @@ fn begin<A: Source, B: Source>(
     let levels = wide.depth.get();
     prove!(levels <= Depth::MOST);
     let mut gathered = Err(Status::SeedSpent);
-    gather_all(wide, first, second, links, &mut gathered)?;
+    gather_all(wide, first, second, links, &mut gathered, negatives)?;
     match open_session(alloc, wide.version(), &mut gathered) {
         Ok(session) => Ok(session),
         Err(status) => Err(by_query(status, links.len() as u8)),
@@ -148,6 +164,7 @@ fn panel_steps<A: Source, B: Source, K: Sink>(
     second: &mut B,
     links: &mut [HelperLink],
     report: &mut K,
+    negatives: &mut Negatives,
 ) -> Result<(), Status>
     requires done { CanBeDone task.now }
     requires some { 0 < length links.old }
@@ -161,6 +178,9 @@ fn panel_steps<A: Source, B: Source, K: Sink>(
         (B.faults second.new) (talks_of links.new) (K.talk report.new)
         (K.faults report.new))
         (status_of result) }
+    ensures negatives { (bytes seed : List ℕ)
+        → A.left first.old ≡ Some bytes → B.left second.old ≡ Some seed
+        → NegativesClause task.now bytes (status_of result) negatives.new }
     ensures count { length links.new ≡ length links.old }
     ensures honest { EachLink (λ _ l m. ⟦<HelperLink as Sink>⟧.is_sure l
         → IsHonestTalk m.kept.talk.items) links.old links.new }
@@ -172,7 +192,7 @@ fn panel_steps<A: Source, B: Source, K: Sink>(
     let levels = task.depth.get();
     prove!(levels >= 1 && levels <= Depth::MOST);
     let wide = seats_task(task, links.len());
-    let mut session = begin(alloc, &wide, first, second, links)?;
+    let mut session = begin(alloc, &wide, first, second, links, negatives)?;
     let queries = task.queries.len() as u8;
     let gone = ask_all(&mut *session, links, queries, report)?;
     on_link(say_bye(links, gone, task.version()))
@@ -206,6 +226,9 @@ fn status_of(steps: Result<(), Status>) -> Status
 /// since the links count none; and no fault of a record of the talk, since none is kept. `TooWide`
 /// names the query. The memory is that of [`Session::new`] for a query for each seat; the time is
 /// that of a run for each helper.
+///
+/// `negatives` gets which sides of the stream had a delta below 0, of those whose large entries are
+/// asked for, as a run tells it.
 pub fn panel<A: Source, B: Source, K: Sink>(
     alloc: Global,
     task: &Task,
@@ -213,6 +236,7 @@ pub fn panel<A: Source, B: Source, K: Sink>(
     second: &mut B,
     links: &mut Vec<HelperLink>,
     report: &mut K,
+    negatives: &mut Negatives,
 ) -> Status
     requires done { CanBeDone task.now }
     requires some { 0 < length links.old.items }
@@ -226,6 +250,9 @@ pub fn panel<A: Source, B: Source, K: Sink>(
         (B.faults second.new) (talks_of links.new.items) (K.talk report.new)
         (K.faults report.new))
         result }
+    ensures negatives { (bytes seed : List ℕ)
+        → A.left first.old ≡ Some bytes → B.left second.old ≡ Some seed
+        → NegativesClause task.now bytes result negatives.new }
     ensures peer { result ≢ Status.PeerFault }
     ensures keep { result ≢ Status.WriteFault Port.Keep }
     ensures honest { EachLink (λ _ l m. ⟦<HelperLink as Sink>⟧.is_sure l
@@ -237,7 +264,15 @@ pub fn panel<A: Source, B: Source, K: Sink>(
     ensures second { Lasts B.faults B.wants B.is_sure second.old second.new }
     ensures report { Lasts K.faults K.wants K.is_sure report.old report.new }
 {
-    let steps = panel_steps(alloc, task, first, second, links.as_mut_slice(), report);
+    let steps = panel_steps(
+        alloc,
+        task,
+        first,
+        second,
+        links.as_mut_slice(),
+        report,
+        negatives,
+    );
     let_all_go(links.as_mut_slice());
     status_of(steps)
 }

@@ -43,7 +43,8 @@ module _ (task : Task) (bytes : List ℕ) (at_blocks : List (List ℕ)) (left : 
     (seats : Seating) where
   -- What one helper heard of the stream, by what the call answered. Where memory ran out some have
   -- heard more of it than others.
-  abbrev pub HearsStream : Result (Unit {0}) Status → List TalkEvent → List TalkEvent → Type 0
+  abbrev pub HearsStream : {T : Type 0} → Result T Status → List TalkEvent → List TalkEvent
+      → Type 0
   HearsStream (Ok _) old new = IsPassedOn task bytes at_blocks left (Some old) (Some new) seats
   HearsStream (Err statuses.OutOfMemory) old new = IsPassedInPart task bytes old new
   HearsStream (Err status) old new = Breaks task bytes (Some old) (Some new) status

@@ -1,6 +1,7 @@
 -- What holds at each exit of each helper follows from how far the stream was read, sent and added
 -- to the seats.
 use Rattle.std.proofs.Common.{List, length, arith, All, ◌≡◌, ◌<◌, ◌≤◌, ◌^◌, ◌∙◌, ◌++◌, [], rules, ap, subst, sym, false}
+use Rattle.std.proofs.lemmas.List.{length-map}
 use Rattle.std.proofs.lemmas.List.Elements.{All-append, All-nil}
 use Rattle.std.proofs.lemmas.Result.{err_from_is_err_and}
 use Rattle.sip_stream.specs.Reading.{IsAfter}
@@ -14,9 +15,10 @@ use Rattle.sip_verifier.specs.Feeding.{Waiting}
 use Rattle.sip_verifier.specs.QuerySeats.{HaveRoom}
 use Rattle.sip_verifier.specs.Tasks.{version_of}
 use Rattle.sip_verifier.proofs.FramesFit.{item_below, open_fits}
-use Rattle.sip_verifier.proofs.Gathered.{IsFollowed, followed_many, followed_on, followed_one, followed_room, fair_items}
+use Rattle.sip_verifier.proofs.Gathered.{IsFollowed, followed_many, followed_on, followed_one, followed_room, fair_items, weighed}
 use Rattle.sip_verifier.proofs.SeatsHead.{depth-shallow}
-use Rattle.sip_session.proofs.Heard.{at_last, heard_first, heard_more, if_ok, last_listed, link_listed, link_stops, part_after, part_first, stream_stops}
+use Rattle.sip_session.specs.Links.{talks_of}
+use Rattle.sip_session.proofs.Heard.{heard_first, heard_more, link_listed, link_stops, on_end, part_after, part_at_end, part_first, stream_stops}
 use Rattle.sip_session.proofs.LinkLemmas.{links_then}
 use Rattle.sip_session.proofs.Places.{within}
 use Rattle.sip_session.proofs.hearing.follow_all.Goals as goal
@@ -223,7 +225,8 @@ update_all-requires-clause-room g c =
 
 pub returns-clause-hears : goal.returns-clause-hears
 returns-clause-hears g c = λ bytes at_blocks all has.
-    let said = rw c.version-version.ensures at c.finish_all.ensures.talks in
+    let said = rw (c.version-version.ensures, c.in_ok-on_link-3.ensures)
+    at c.finish_all.ensures.talks in
     λ k less.
     let so = c.loop-update.invariant.underway bytes at_blocks all has k less in
     let reads = rw (
@@ -234,21 +237,60 @@ returns-clause-hears g c = λ bytes at_blocks all has.
     ) at (c.next.ensures.reads so.stream so.rest so.after
     so.to_come) in
     let stand = rw c.waiting.ensures at (c.update_all.ensures.stands _ _ _ so.said.sent so.stand) in
-    at_last c.args.task.now bytes _ _ at_blocks has _ _ _ _ _ _ _ _ so c.finish_all.result
-    c.on_link-2.result c.on_link-2.ensures c.finish_all.ensures.cause reads
+    on_end c.args.task.now bytes _ _ at_blocks has _ _ _ _ _ _ _ so _ reads
     (said k (within (λ x. x.kept.talk.items) c.args.links.now c.loop-update.links k
     c.loop-update.invariant.count less)) stand
 
+pub returns-in_err-on_link-3-clause-hears : goal.returns-in_err-on_link-3-clause-hears
+returns-in_err-on_link-3-clause-hears g c = λ bytes at_blocks all has.
+    let p = err_from_is_err_and c.from_residual-in_err-on_link-3.result
+    c.from_residual-in_err-on_link-3.ensures.1 in
+    let (port, stop, is) = c.in_err-on_link-3.ensures in
+    let said = rw (c.version-version.ensures, stop) at c.finish_all.ensures.talks in
+    rw (p.1, p.2, is) (λ k less.
+    let so = c.loop-update.invariant.underway bytes at_blocks all has k less in
+    let reads = rw (
+      c.loop-update.invariant.depth,
+      c.loop-update.invariant.form,
+      c.in_ok-update.ensures,
+      c.in_default.is,
+    ) at (c.next.ensures.reads so.stream so.rest so.after
+    so.to_come) in
+    let stand = rw c.waiting.ensures at (c.update_all.ensures.stands _ _ _ so.said.sent so.stand) in
+    link_stops c.args.task.now bytes at_blocks (g.A.Source.left c.next.new.source)
+    c.update_all.new.self _ _ c.finish_all.result port stop c.finish_all.ensures.cause
+    (part_at_end c.args.task.now bytes _ _ at_blocks has _ _ _ _ _ _ _ so c.update_all.new.self
+    port reads (said k (within (λ x. x.kept.talk.items) c.args.links.now c.loop-update.links k
+    c.loop-update.invariant.count less)) stand))
+
 pub returns-clause-seats : goal.returns-clause-seats
 returns-clause-seats g c =
-    let had = c.loop-update.invariant.seats in
-    if_ok c.on_link-2.result _ (
+    let had = c.loop-update.invariant.seats in (
       had.sent ++ c.waiting.result.now,
       record {
         at_blocks = had.stand.at_blocks;
         stand = c.update_all.ensures.stands _ _ _ had.sent had.stand.stand;
       },
     )
+
+pub returns-clause-weights : goal.returns-clause-weights
+returns-clause-weights g c = λ some bytes all.
+    let at = c.requires.at_blocks in
+    let has = c.requires.stand in
+    let heard : 0 < length (talks_of c.args.links.now) =
+    omega (arith, length-map c.args.links.now (λ l. l.kept.talk.items), some) in
+    let so = c.loop-update.invariant.underway bytes at all has 0 heard in
+    let reads = rw (
+      c.loop-update.invariant.depth,
+      c.loop-update.invariant.form,
+      c.in_ok-update.ensures,
+      c.in_default.is,
+    ) at (c.next.ensures.reads so.stream so.rest so.after
+    so.to_come) in
+    let after = rw (c.in_ok-update.ensures, c.in_default.is) at (c.next.ensures.after so.stream
+    so.after) in
+    weighed c.args.task.now bytes _ _ at has _ _ _ _ _ _ so reads c.next.new.self after _
+    c.weight.ensures.same c.weight-2.ensures.same
 
 pub returns-in_err-on_link-clause-fault : goal.returns-in_err-on_link-clause-fault
 returns-in_err-on_link-clause-fault g c =
@@ -263,9 +305,12 @@ returns-in_err-on_link-2-clause-fault g c =
     let (port, stop, is) = c.in_err-on_link-2.ensures in
     rw (p.1, p.2, is) (link_listed _ _ c.pass_on_all.result port stop c.pass_on_all.ensures.cause)
 
-pub returns-clause-fault : goal.returns-clause-fault
-returns-clause-fault g c = last_listed _ _ c.finish_all.result c.on_link-2.result
-    c.on_link-2.ensures c.finish_all.ensures.cause
+pub returns-in_err-on_link-3-clause-fault : goal.returns-in_err-on_link-3-clause-fault
+returns-in_err-on_link-3-clause-fault g c =
+    let p = err_from_is_err_and c.from_residual-in_err-on_link-3.result
+    c.from_residual-in_err-on_link-3.ensures.1 in
+    let (port, stop, is) = c.in_err-on_link-3.ensures in
+    rw (p.1, p.2, is) (link_listed _ _ c.finish_all.result port stop c.finish_all.ensures.cause)
 
 pub returns-in_err-on_link-2-clause-sure : goal.returns-in_err-on_link-2-clause-sure
 returns-in_err-on_link-2-clause-sure g c =
@@ -275,6 +320,12 @@ returns-in_err-on_link-2-clause-sure g c =
 
 pub returns-clause-sure : goal.returns-clause-sure
 returns-clause-sure g c =
+    links_then _ _ _ c.args.links.now c.loop-update.links c.finish_all.new.links
+    c.finish_all.ensures.count (λ place l m n p q k. q (p k)) c.loop-update.invariant.sure
+    c.finish_all.ensures.sure
+
+pub returns-in_err-on_link-3-clause-sure : goal.returns-in_err-on_link-3-clause-sure
+returns-in_err-on_link-3-clause-sure g c =
     links_then _ _ _ c.args.links.now c.loop-update.links c.finish_all.new.links
     c.finish_all.ensures.count (λ place l m n p q k. q (p k)) c.loop-update.invariant.sure
     c.finish_all.ensures.sure

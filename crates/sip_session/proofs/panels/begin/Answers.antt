@@ -3,9 +3,10 @@ use Rattle.std.proofs.Common.{◌≤◌, arith, length}
 use Rattle.std.proofs.lemmas.Result.{err_from_is_err_and}
 use Rattle.sip_vector.specs.Limits.{most_depth}
 use Rattle.sip_verifier.specs.Snapshots.{counts}
+use Rattle.sip_verifier.proofs.RunNegatives.{of_stopped}
 use Rattle.sip_verifier.proofs.RunPromises.{gathering_listed}
 use Rattle.sip_verifier.proofs.SeatsHead.{gathered-speak}
-use Rattle.sip_session.proofs.Begun.{begun_counted, begun_listed, begun_named, gathers_begins, stops_listed}
+use Rattle.sip_session.proofs.Begun.{begun_counted, begun_listed, begun_named, begun_negatives, gathers_begins, stops_listed}
 use Rattle.sip_session.proofs.panels.begin.Goals as goal
 
 pub returns-in_err-gather_all-clause-begins : goal.returns-in_err-gather_all-clause-begins
@@ -70,3 +71,28 @@ returns-in-Err-clause-fault g c =
     rw c.by_query.ensures (begun_listed (length c.gather_all.new.links) c.version.result
     c.gather_all.new.gathered c.in-Err.status before now c.in-Err.ensures
     c.in_ok-gather_all.ensures.fault)
+
+pub returns-in_err-gather_all-clause-negatives : goal.returns-in_err-gather_all-clause-negatives
+returns-in_err-gather_all-clause-negatives g c = λ bytes seed all told.
+    let p = err_from_is_err_and c.from_residual.result c.from_residual.ensures.1 in
+    rw (p.1, p.2) (of_stopped c.args.wide.now bytes c.in_err-gather_all.field-0.0 _
+    c.in_err-gather_all.ensures.fault.0
+    (c.in_err-gather_all.ensures.negatives c.requires.some bytes seed all told))
+
+pub returns-in-Ok-clause-negatives : goal.returns-in-Ok-clause-negatives
+returns-in-Ok-clause-negatives g c = λ bytes seed all told.
+    let (seats, is, starts) = c.in-Ok.ensures in
+    rw is at c.in_ok-gather_all.ensures.negatives c.requires.some bytes seed all told
+
+pub returns-in-Err-clause-negatives : goal.returns-in-Err-clause-negatives
+returns-in-Err-clause-negatives g c = λ bytes seed all told.
+    let before =
+    counts (g.A.Source.faults c.args.first.now) (g.B.Source.faults c.args.second.now) 0 0 0 in
+    let now =
+    counts (g.A.Source.faults c.gather_all.new.first)
+    (g.B.Source.faults c.gather_all.new.second) 0 0 0 in
+    let listed =
+    stops_listed before now c.gather_all.new.gathered c.in_ok-gather_all.ensures.fault in
+    rw c.by_query.ensures (begun_negatives (length c.gather_all.new.links) c.args.wide.now bytes
+    c.version.result c.gather_all.new.gathered c.in-Err.status _ c.in-Err.ensures listed
+    (c.in_ok-gather_all.ensures.negatives c.requires.some bytes seed all told))

@@ -16,3 +16,7 @@ returns-clause-honest g c =
     (c.let_all_go.ensures.count ∙ c.as_mut_slice-2.ensures.len))
     c.let_all_go.ensures.count c.let_all_go.ensures.talks
     c.panel_steps-steps.ensures.honest
+
+pub returns-clause-negatives : goal.returns-clause-negatives
+returns-clause-negatives g c = λ bytes seed all told.
+    rw c.status_of.ensures (c.panel_steps-steps.ensures.negatives bytes seed all told)

@@ -1,13 +1,16 @@
 -- At each end of the steps the facts of the calls before it are handed to the lemma of that end.
-use Rattle.std.proofs.Common.{◌≤◌, ◌<◌, [], Err, ap, subst, ◌∙◌, arith, length, map}
+use Rattle.std.proofs.Common.{◌≡◌, ◌<◌, [], Err, ap, subst, ◌∙◌, arith, length}
 use Rattle.std.proofs.lemmas.List.{length-map}
 use Rattle.std.proofs.lemmas.Result.{err_from_is_err_and}
 use Rattle.sip_ports.proofs.TalkLemmas.{GoesOn-refl}
 use Rattle.sip_duel.proofs.KeepsLemmas.{kept_is_honest}
 use Rattle.sip_verifier.specs.declared.task.Task.{Task}
 use Rattle.sip_verifier.specs.Gathering.{legal}
+use Rattle.sip_verifier.specs.Concluding.{status_of}
+use Rattle.sip_verifier.specs.Negatives.{heavy_negatives}
 use Rattle.sip_verifier.specs.Snapshots.{counts}
 use Rattle.sip_verifier.specs.Sittings.{Sitting}
+use Rattle.sip_verifier.proofs.RunNegatives.{of_gathered}
 use Rattle.sip_verifier.proofs.RunTalks.{nothing_reported, some_value, written_is}
 use Rattle.sip_verifier.proofs.SeatedBehind.{seats_left}
 use Rattle.sip_session.specs.Links.{talks_of}
@@ -17,6 +20,7 @@ use Rattle.sip_session.proofs.Begun.{helpers_few, never_rose, task_bounds, wide_
 use Rattle.sip_session.proofs.PanelLinks.{told_asking, told_early, told_farewell}
 use Rattle.sip_session.proofs.PanelRuns.{asking_stops, beginning_stops, farewell_listed, halts_wrote, not_begun, panel_tells, said_farewell, stopped_asking, told_nothing}
 use Rattle.sip_session.proofs.Places.{told_length}
+use Rattle.sip_session.proofs.SeatNegatives.{of_seats}
 use Rattle.sip_session.proofs.Seats.{length-seats}
 use Rattle.sip_session.proofs.panels.panel_steps.Goals as goal
 
@@ -208,3 +212,30 @@ returns-clause-honest g c =
     c.ask_all.ensures.count c.say_bye.ensures.count c.begin.ensures.sure
     c.ask_all.ensures.honest c.in_ok-gone.ensures.sure c.say_bye.ensures.sure
     (λ place less dropped. (c.say_bye.ensures.talks place less).0 dropped)
+
+-- what the stream told of deltas below 0
+
+pub returns-in_err-session-clause-negatives : goal.returns-in_err-session-clause-negatives
+returns-in_err-session-clause-negatives g c = λ bytes seed all told.
+    let p = err_from_is_err_and c.from_residual.result c.from_residual.ensures.1 in
+    rw (p.1, p.2) (of_seats (length c.args.links.now) c.args.task.now bytes
+    c.in_err-session.field-0.0 _ c.requires.some
+    (rw c.seats_task-wide.ensures at (c.in_err-session.ensures.negatives bytes seed all told)))
+
+pub returns-in_err-gone-clause-negatives : goal.returns-in_err-gone-clause-negatives
+returns-in_err-gone-clause-negatives g c = λ bytes seed all told.
+    let p = err_from_is_err_and c.from_residual-in_err-gone.result
+    c.from_residual-in_err-gone.ensures.1 in
+    let are = subst (λ (w : Task). c.begin.new.negatives
+    ≡ heavy_negatives w.queries.items (legal w bytes)) c.seats_task-wide.ensures
+    (c.in_ok-session.ensures.negatives bytes seed all told) in
+    rw (p.1, p.2) (of_seats (length c.args.links.now) c.args.task.now bytes
+    c.in_err-gone.field-0.0 _ c.requires.some (of_gathered _ bytes c.in_err-gone.field-0.0 _ are))
+
+pub returns-clause-negatives : goal.returns-clause-negatives
+returns-clause-negatives g c = λ bytes seed all told.
+    let are = subst (λ (w : Task). c.begin.new.negatives
+    ≡ heavy_negatives w.queries.items (legal w bytes)) c.seats_task-wide.ensures
+    (c.in_ok-session.ensures.negatives bytes seed all told) in
+    of_seats (length c.args.links.now) c.args.task.now bytes (status_of c.on_link.result) _
+    c.requires.some (of_gathered _ bytes (status_of c.on_link.result) _ are)
