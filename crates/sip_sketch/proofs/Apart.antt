@@ -49,7 +49,7 @@ high_back true false = refl
 high_back false true = refl
 high_back false false = refl
 
-kinds_same : (k m : SeatKind) → code_of k ≡ code_of m → k ≡ m
+pub kinds_same : (k m : SeatKind) → code_of k ≡ code_of m → k ≡ m
 kinds_same k m e = sym (kind_back k) ∙ ap kind_of e ∙ kind_back m
 
 uses_same : (a b : Bool) → from_bool a ≡ from_bool b → a ≡ b

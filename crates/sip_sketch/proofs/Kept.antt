@@ -192,6 +192,11 @@ raised_told (Heavy side) (AugRoot root) (Points points) updates t kept kept' aft
 
 -- ---- room for more
 
+-- the total of a side is within its weight
+pub total_within : (w : ℕ) (is_open : Bool) (x : ℕ) → IsValue (total_field w is_open) x → (most_weight ≤ x + w) × (x ≤ most_weight + w)
+total_within w true x value = let (low, high) = ranged_from Long (most_weight - w) (most_weight + w) x value in (omega (arith, low), high)
+total_within w false x value = let (low, high) = ranged_from Long (most_weight + w) (most_weight + w) x value in (omega (arith, low), high)
+
 pub kept_room : (kind : SeatKind) (t : Tally) (first x : ℕ) (updates : List Update) → IsTold t kind false x
     → weight_told t (side_of kind) + weight updates (side_of kind) ≤ most_weight → HasRoom (numbers_kept kind first x) (of_side updates (side_of kind))
 kept_room Entries t first x updates told light = λ hash total is k few. absurd cc
@@ -204,7 +209,3 @@ kept_room (Heavy side) t first x updates told light = λ hash total is k few.
     let within = total_within w (negative_told t side) x own in
     let start : nat_abs total ≤ w = subst (λ z. nat_abs z ≤ w) same (omega (arith, ints, within.0, within.1, light)) in
     omega (arith, light_after (of_side updates side) total w k start, light)
-  where
-    total_within : (w : ℕ) (is_open : Bool) (x : ℕ) → IsValue (total_field w is_open) x → (most_weight ≤ x + w) × (x ≤ most_weight + w)
-    total_within w true x value = let (low, high) = ranged_from Long (most_weight - w) (most_weight + w) x value in (omega (arith, low), high)
-    total_within w false x value = let (low, high) = ranged_from Long (most_weight + w) (most_weight + w) x value in (omega (arith, low), high)

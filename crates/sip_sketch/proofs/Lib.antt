@@ -20,3 +20,6 @@ pub mod Summed
 pub mod Coming
 pub mod Next
 pub mod Grown
+pub mod Added
+pub mod Alike
+pub mod Summing

@@ -41,7 +41,7 @@ is_positive : (d : ℤ) → int_lt d (pos 0) ≡ false → d ≡ pos (nat_abs d)
 is_positive (pos n) none = refl
 is_positive (negsuc n) none = absurd cc
 
-neither : (a b : Bool) → (a || b) ≡ false → (a ≡ false) × (b ≡ false)
+pub neither : (a b : Bool) → (a || b) ≡ false → (a ≡ false) × (b ≡ false)
 neither true b none = absurd cc
 neither false b none = (refl, none)
 

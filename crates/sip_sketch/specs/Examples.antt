@@ -61,6 +61,30 @@ watched = record {
       } ∷ [];
 }
 
+-- a sketch with these parts in, of so many
+abbrev pub with_parts : ℕ → ℕ → ℕ → SketchValues → SketchValues
+with_parts first last count s = record {
+  depth = s.depth;
+  parts = record { count = count; first = first; last = last };
+  tally = s.tally;
+  seats = s.seats;
+}
+
+-- a sketch of which this is told
+abbrev pub with_weight : ℕ → SketchValues → SketchValues
+with_weight weight s = record {
+  depth = s.depth;
+  parts = s.parts;
+  tally = record {
+    count = 1;
+    first = weight;
+    second = 0;
+    negatives = none_negative;
+    fingerprint = 0;
+  };
+  seats = s.seats;
+}
+
 -- its file, without the digest
 abbrev pub watched_bytes : List ℕ
 watched_bytes =

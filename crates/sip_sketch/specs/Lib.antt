@@ -1,5 +1,6 @@
 pub mod Examples
 pub mod Fields
+pub mod Joining
 pub mod Reading
 pub mod Seats
 pub mod Sketches

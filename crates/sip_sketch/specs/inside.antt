@@ -1,3 +1,4 @@
+pub mod Adding
 pub mod Beginning
 pub mod Heads
 pub mod Raising

@@ -1,12 +1,15 @@
 //! Worked examples of the file, which hold by computation. These functions do nothing: each
 //! contract is a fact that holds.
 
-ghost use Rattle.std.specs.Prelude.{◌≡◌, ℕ, List, [], ◌∷◌, ◌++◌, take, Ok, Err};
+ghost use Rattle.std.specs.Prelude.{◌≡◌, ℕ, ◌-◌, ◌^◌, List, [], ◌∷◌, ◌++◌, take, Ok, Err, Some, None};
 ghost use Rattle.sha2.specs.Sha256.{sha256};
 ghost use Rattle.sip_sketch.specs.Fields.{read};
+ghost use Rattle.sip_sketch.specs.Joining.{added, unlike};
 ghost use Rattle.sip_sketch.specs.Sketches.{numbers, sketch_file, spelled_file};
+ghost use Rattle.sip_sketch.specs.declared.unlike.Unlike.TheVariants as reasons;
+ghost use Rattle.sip_vector.specs.declared.update.Side.TheVariants as sides;
 ghost use Rattle.sip_sketch.specs.Examples.{begun, begun_bytes, begun_digest, changed, heavy_bytes};
-ghost use Rattle.sip_sketch.specs.Examples.{modulus_bytes, watched};
+ghost use Rattle.sip_sketch.specs.Examples.{modulus_bytes, watched, with_parts, with_weight};
 ghost use Rattle.sip_sketch.specs.Examples.{watched_bytes, watched_digest};
 
 /// The sketches of the empty stream and of three records are spelled by their bytes, with the
@@ -64,4 +67,26 @@ pub fn faults_of_a_total()
 #[tactic(auto, unfolding(sha2::specs::Sha256::first_words, sha2::specs::Sha256::schedule, sha2::specs::Sha256::rounds, sha2::specs::Sha256::compress, sha2::specs::Sha256::hash_after, sha2::specs::Sha256::digest_bytes, sha2::specs::Sha256::sha256))]
 pub fn the_total_is_the_weight()
     ensures { read sketch_file (heavy_bytes 9) ≡ Err 86 }
+{}
+
+/// A part is added behind the one before it and nowhere else, and a whole sketch is none. Two sides
+/// of 2^29 are too heavy, and what was kept of three records and of none adds up.
+pub fn parts_by_hand()
+    ensures next { unlike (with_parts 1 1 2 begun) (with_parts 2 2 2 watched) ≡ None }
+    ensures again { unlike (with_parts 1 1 2 begun) (with_parts 1 1 2 watched)
+        ≡ Some reasons.NotNext }
+    ensures before { unlike (with_parts 2 2 2 begun) (with_parts 1 1 2 watched)
+        ≡ Some reasons.NotNext }
+    ensures apart { unlike (with_parts 1 1 3 begun) (with_parts 3 3 3 watched)
+        ≡ Some reasons.NotNext }
+    ensures whole { unlike (with_parts 1 2 2 begun) (with_parts 1 2 2 watched)
+        ≡ Some reasons.Whole }
+    ensures count { unlike (with_parts 1 1 2 begun) (with_parts 2 2 3 watched)
+        ≡ Some reasons.Shape }
+    ensures heavy { unlike (with_weight (2 ^ 29) (with_parts 1 1 2 begun))
+        (with_weight (2 ^ 29) (with_parts 2 2 2 begun)) ≡ Some (reasons.Heavy sides.First) }
+    ensures light { unlike (with_weight (2 ^ 29) (with_parts 1 1 2 begun))
+        (with_weight (2 ^ 29 - 1) (with_parts 2 2 2 begun)) ≡ None }
+    ensures sum { added (with_parts 1 1 2 begun) (with_parts 2 2 2 watched)
+        ≡ with_parts 1 2 2 watched }
 {}

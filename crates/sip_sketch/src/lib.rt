@@ -16,6 +16,9 @@
 //!   its seed gives. Where a sketch stands for a stream, it stands for the stream and the updates
 //!   behind it after [`Sketch::update_all`], which changes neither the kinds, the uses and the
 //!   challenges of seats nor the numbers of a used one.
+//! - [`Sketch::absorb`] adds the next part of a stream, which another collector kept: where the one
+//!   sketch stands for a stream and the other for one behind it, the sum stands for both. It says
+//!   why a part is not added, and leaves the sketch as it was then.
 //! - [`Sketch::write`] writes that file, and takes memory only where there is less room than the
 //!   file has bytes ([`Sketch::size`]).
 //!
@@ -27,12 +30,14 @@
 //! | `Seats` | what a seat keeps of a stream, and the two numbers by which its file says it |
 //! | `Standing` | which streams a sketch stands for, and what one is that begins |
 //! | `Sketches` | what a sketch has, its numbers in their order, the fields of its file |
+//! | `Joining` | what a sketch and the next part add up to, and why a part is not added |
 //! | `Reading` | what reading answers, and the sketch or the fault that this is |
 //! | `Examples` | what the examples work out |
 //!
 //! [`examples`] has two files with their digests, and the first faults of others.
 #![tactic(auto)]
 
+mod absorbing;
 mod beginning;
 mod cursor;
 pub mod examples;
@@ -43,6 +48,7 @@ mod parts;
 mod reading;
 mod seat;
 mod sketch;
+mod unlike;
 mod updating;
 mod writing;
 
@@ -52,4 +58,5 @@ pub use kind::SeatKind;
 pub use parts::Parts;
 pub use seat::SketchSeat;
 pub use sketch::Sketch;
+pub use unlike::Unlike;
 pub use updating::MOST_UPDATES;

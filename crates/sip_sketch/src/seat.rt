@@ -11,10 +11,12 @@ ghost use Rattle.sip_vector.specs.declared.update.Side.TheVariants as sides;
 ghost use Rattle.sip_vector.specs.declared.update.Update.{Update as AnyUpdate};
 ghost use Rattle.sip_verifier.specs.QuerySeats.{HasRoom, RunsOn, keeps};
 ghost use Rattle.sip_verifier.specs.Running.{block_of, numbers_of};
+ghost use Rattle.sip_sketch.specs.Joining.{added_seat};
 ghost use Rattle.sip_sketch.specs.Seats.{IsSecond, first_number, numbers_kept, query_of};
 ghost use Rattle.sip_sketch.specs.Seats.{second_number, side_of};
 ghost use Rattle.sip_sketch.specs.Standing.{SeatStands};
 ghost use Rattle.sip_sketch.specs.declared.kind.SeatKind.{SeatKind as AnyKind};
+ghost use Rattle.sip_sketch.specs.inside.Adding.{AddUp};
 ghost use Rattle.sip_sketch.specs.inside.Raising.{HasSecond, IsRaised, IsTotalAfter, own_of};
 ghost use Rattle.sip_sketch.specs.inside.Raising.{StartsAt};
 
@@ -240,6 +242,17 @@ impl SketchSeat {
             let side = self.kind.side();
             raise(&mut self.running, side, firsts, seconds);
         }
+    }
+
+    /// Adds the numbers of another seat, where no question has used this one.
+    pub(crate) fn absorb(&mut self, other: &SketchSeat)
+        requires { AddUp self.old other.now }
+        ensures { self.new ≡ added_seat self.old other.now }
+    {
+        if self.is_used {
+            return;
+        }
+        self.running.absorb(&other.running);
     }
 
     /// What it serves.
