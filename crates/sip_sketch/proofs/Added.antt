@@ -1,10 +1,8 @@
 -- What two seats of a kind add up to, and two sketches.
-use Rattle.std.proofs.Common.{◌≡◌, ℕ, zero, suc, ◌+◌, ◌-◌, ◌%◌, ◌^◌, ◌<◌, ◌≤◌, Bool, true, false, cond, ◌||◌, pos, nat_abs, ◌+ℤ◌, List, [], ◌∷◌, ◌++◌, length, All, get_or, set, refl, sym, ap, ap₂, subst, ◌∙◌, arith}
-use Rattle.std.specs.Prelude.{IsTrue, ◌-ℤ◌}
-use Rattle.std.specs.Int.{from_bool}
+use Rattle.std.proofs.Common.{◌≡◌, ℕ, zero, suc, ◌+◌, ◌-◌, ◌%◌, ◌<◌, ◌≤◌, Bool, true, false, cond, ◌||◌, pos, List, [], ◌∷◌, ◌++◌, length, get_or, set, refl, sym, ap, subst, ◌∙◌, arith}
+use Rattle.std.specs.Prelude.{◌-ℤ◌}
 use Rattle.std.specs.List.{AllZip}
 use Rattle.std.proofs.Math.Nat.{mod-lt}
-use Rattle.std.proofs.lemmas.Bool.{cases_Bool}
 use Rattle.std.proofs.lemmas.Int.{ints}
 use Rattle.sip_field.specs.Moduli.{m61_modulus}
 use Rattle.sip_mle.specs.StandsFor.{PointStandsFor}
@@ -19,19 +17,17 @@ use Rattle.sip_vector.specs.declared.update.Side.TheVariants.{First, Second}
 use Rattle.sip_vector.specs.declared.update.Update.{Update}
 use Rattle.sip_vector.proofs.Lines.{vector_joined}
 use Rattle.sip_verifier.specs.QuerySeats.{RunsOn}
-use Rattle.sip_verifier.specs.Running.{FitTogether, added_up, block_of, numbers_of, same_kind}
-use Rattle.sip_verifier.specs.declared.running.Running.{Running}
+use Rattle.sip_verifier.specs.Running.{FitTogether}
 use Rattle.sip_sketch.specs.declared.cursor.Size.TheVariants.{Long}
 use Rattle.sip_sketch.specs.declared.kind.SeatKind.{SeatKind}
 use Rattle.sip_sketch.specs.declared.kind.SeatKind.TheVariants.{Entries, Sums, Products, Heavy}
 use Rattle.sip_sketch.specs.Fields.{Field, IsValue}
 use Rattle.sip_sketch.specs.Joining.{added_seat, added_seats, added_second}
-use Rattle.sip_sketch.specs.Seats.{IsSecond, first_number, numbers_kept, query_of, second_number, side_of}
+use Rattle.sip_sketch.specs.Seats.{numbers_kept, query_of}
 use Rattle.sip_sketch.specs.Sketches.{SeatValues, element, total_field}
 use Rattle.sip_sketch.specs.Standing.{SeatStands}
 use Rattle.sip_sketch.specs.inside.Adding.{AddUp}
-use Rattle.sip_sketch.proofs.Kept.{IsTold, heavy_field, heavy_more, is_second, kept_back, negative_told, total_within, weight_told}
-use Rattle.sip_sketch.proofs.Raised.{Keeps, seen}
+use Rattle.sip_sketch.proofs.Kept.{IsTold, heavy_field, heavy_more, negative_told, total_within, weight_told}
 use Rattle.sip_sketch.proofs.Whole.{SeatFits, ranged_from, ranged_value}
 
 -- ---- the numbers of both streams

@@ -1,5 +1,5 @@
 -- What was read so far of a seat, of what is told of the stream, and of a head.
-use Rattle.std.proofs.Common.{◌≡◌, ℕ, ◌+◌, List, [], ◌∷◌, ◌++◌, sym, subst, append_assoc}
+use Rattle.std.proofs.Common.{◌≡◌, ℕ, ◌+◌, List, [], ◌∷◌, ◌++◌, subst, append_assoc}
 use Rattle.sip_vector.specs.Limits.{most_depth}
 use Rattle.sip_vector.specs.Streams.{most_weight}
 use Rattle.sip_vector.specs.declared.tally.Tally.{Tally}

@@ -1,5 +1,5 @@
 -- A sketch before and after more updates.
-use Rattle.std.proofs.Common.{◌≡◌, ℕ, ◌^◌, ◌<◌, ◌≤◌, ◌++◌, false, List, length, All, get_or, sym, subst, refl}
+use Rattle.std.proofs.Common.{◌≡◌, ℕ, ◌^◌, ◌<◌, ◌≤◌, false, List, length, All, get_or, sym, subst, refl}
 use Rattle.std.specs.List.{AllZip}
 use Rattle.sip_vector.specs.Limits.{most_depth}
 use Rattle.sip_vector.specs.Streams.{of_side}
@@ -11,7 +11,7 @@ use Rattle.sip_verifier.specs.QuerySeats.{HasRoom}
 use Rattle.sip_sketch.specs.declared.sketch.Sketch.TheInside.{Inside}
 use Rattle.sip_sketch.specs.Seats.{numbers_kept, side_of}
 use Rattle.sip_sketch.specs.Sketches.{IsSketch, SeatValues, SketchValues}
-use Rattle.sip_sketch.specs.Standing.{IsKept, MayCome, Stands}
+use Rattle.sip_sketch.specs.Standing.{MayCome}
 use Rattle.sip_sketch.specs.inside.Raising.{IsGrown, IsRaised, own_of}
 use Rattle.sip_sketch.proofs.Coming.{next_fits, next_room, next_shallow, own_below}
 use Rattle.sip_sketch.proofs.Lifted.{RaisedTo, raised-all, zip-fits, zip-kept, zip-left, zip-stands}

@@ -1,23 +1,21 @@
 -- A sketch and the next part of its stream.
-use Rattle.std.proofs.Common.{◌≡◌, ◌≢◌, ℕ, ◌+◌, ◌-◌, ◌^◌, ◌<◌, ◌≤◌, false, pos, List, ◌++◌, length, All, get_or, refl, sym, ap, ap₂, subst, ◌∙◌, arith}
+use Rattle.std.proofs.Common.{◌≡◌, ◌≢◌, ℕ, ◌-◌, ◌^◌, ◌<◌, false, pos, List, ◌++◌, length, get_or, sym, ap, ap₂, subst, ◌∙◌, arith}
 use Rattle.std.specs.List.{AllZip}
 use Rattle.std.proofs.lemmas.List.Elements.{All-append}
-use Rattle.sip_vector.specs.Streams.{IsLegal, most_weight, weight}
-use Rattle.sip_vector.specs.Tallies.{joined, tally}
+use Rattle.sip_vector.specs.Streams.{IsLegal}
+use Rattle.sip_vector.specs.Tallies.{joined}
 use Rattle.sip_vector.specs.declared.tally.Tally.{Tally}
-use Rattle.sip_vector.specs.declared.update.Side.TheVariants.{First, Second}
 use Rattle.sip_vector.specs.declared.update.Update.{Update}
 use Rattle.sip_vector.proofs.Joined.{tally-append}
 use Rattle.sip_sketch.specs.declared.cursor.Size.TheVariants.{Word}
-use Rattle.sip_sketch.specs.Fields.{IsValue}
-use Rattle.sip_sketch.specs.Joining.{added, added_seat, added_seats, same_seat, unlike}
+use Rattle.sip_sketch.specs.Joining.{added, added_seats, same_seat}
 use Rattle.sip_sketch.specs.Sketches.{IsSketch, SeatValues, SketchValues}
 use Rattle.sip_sketch.specs.Standing.{SeatStands, Stands}
 use Rattle.sip_sketch.specs.inside.Adding.{AddUp}
 use Rattle.sip_sketch.proofs.Added.{added-at, added-length, added_fits, added_stands, seats_add_up, zip-from}
 use Rattle.sip_sketch.proofs.Alike.{Joins, alike-at, alike-length, none_used, seats_block, seats_kind}
 use Rattle.sip_sketch.proofs.Sound.{head_with, print_small, sound_from, sound_joined}
-use Rattle.sip_sketch.proofs.Whole.{HeadFits, SeatFits, fits_from, head_from, ranged_from, ranged_value, sketch_from}
+use Rattle.sip_sketch.proofs.Whole.{SeatFits, fits_from, head_from, ranged_from, ranged_value, sketch_from}
 
 module _ (s part : SketchValues) (is : IsSketch s) (other : IsSketch part) (joins : Joins s part) where
   pub as_many : length s.seats ≡ length part.seats

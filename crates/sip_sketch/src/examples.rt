@@ -1,7 +1,8 @@
 //! Worked examples of the file, which hold by computation. These functions do nothing: each
 //! contract is a fact that holds.
 
-ghost use Rattle.std.specs.Prelude.{◌≡◌, ℕ, ◌-◌, ◌^◌, List, [], ◌∷◌, ◌++◌, take, Ok, Err, Some, None};
+ghost use Rattle.std.specs.Prelude.{◌≡◌, ℕ, ◌-◌, ◌^◌, List, [], ◌∷◌, ◌++◌, take, Ok, Err};
+ghost use Rattle.std.specs.Prelude.{Some, None};
 ghost use Rattle.sha2.specs.Sha256.{sha256};
 ghost use Rattle.sip_sketch.specs.Fields.{read};
 ghost use Rattle.sip_sketch.specs.Joining.{added, unlike};

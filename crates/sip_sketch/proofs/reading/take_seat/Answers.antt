@@ -2,7 +2,7 @@
 use Rattle.std.proofs.Common.{ap₂, ◌∙◌}
 use Rattle.std.proofs.lemmas.Result.{err_from_is_err_and}
 use Rattle.sip_sketch.specs.Sketches.{second_of}
-use Rattle.sip_sketch.proofs.Fronts.{seat_block, seat_fails, seat_first, seat_used, seat_whole}
+use Rattle.sip_sketch.proofs.Fronts.{seat_block, seat_fails, seat_used, seat_whole}
 use Rattle.sip_sketch.proofs.SeatFields.{after_kind, after_used, after_block, after_first}
 use Rattle.sip_sketch.proofs.Steps.{fault_behind, bit_back}
 use Rattle.sip_sketch.proofs.reading.take_seat.Goals as goal

@@ -1,13 +1,11 @@
 -- What is told of the stream, and each seat, before and after more updates.
-use Rattle.std.proofs.Common.{◌≡◌, ◌<◌, ◌≤◌, ◌++◌, All, List, length, drop, take, refl, sym, ap, subst, ◌∙◌, arith}
+use Rattle.std.proofs.Common.{◌≡◌, ◌<◌, All, length, sym, ap, subst, ◌∙◌, arith}
 use Rattle.std.proofs.lemmas.List.{with_items_is}
-use Rattle.sip_vector.specs.Tallies.{IsSound, joined, tally}
-use Rattle.sip_vector.specs.declared.tally.Tally.{Tally}
+use Rattle.sip_vector.specs.Tallies.{IsSound, joined}
 use Rattle.sip_vector.specs.declared.update.Side.TheVariants.{First, Second}
 use Rattle.sip_vector.specs.declared.update.Update.{Update}
-use Rattle.sip_sketch.specs.Sketches.{SketchValues}
 use Rattle.sip_sketch.proofs.Coming.{all_own}
-use Rattle.sip_sketch.proofs.Grown.{all_grown, all_sketch, grown, next_seat, seen}
+use Rattle.sip_sketch.proofs.Grown.{all_grown, all_sketch, next_seat, seen}
 use Rattle.sip_sketch.proofs.Lifted.{raised-more}
 use Rattle.sip_sketch.proofs.Sound.{come_sound, told_same}
 use Rattle.sip_sketch.proofs.Summed.{weighed}
