@@ -1,6 +1,6 @@
 -- The queries of a head with their challenges, one by one.
 use Rattle.std.proofs.Common.{◌≡◌, ℕ, zero, suc, ◌+◌, ◌*◌, ◌<◌, ◌≤◌, List, [], ◌∷◌, ◌++◌, length, take, drop, get_or, sym, ap, subst, ◌∙◌, arith, append_assoc, append-nil, length-append}
-use Rattle.std.specs.Prelude.{All, IsTrue}
+use Rattle.std.specs.Prelude.{All, IsTrue, slice_index_or}
 use Rattle.std.specs.List.{flat_map}
 use Rattle.std.proofs.lemmas.List.{drop-drop, drop_at, get_or-map, length-map, length-take-le, take-append-drop, take_at, take_more}
 use Rattle.std.proofs.lemmas.List.Concat.{flat_map-cons}
@@ -71,13 +71,23 @@ pair-is : (ask : Ask) (query : Query) (block : List ℕ) → ask.0 ≡ query →
 pair-is (q, b) query block e f = ap (λ (x : Query). (x, b)) e ∙ ap (λ (x : List ℕ). (query, x)) f
 
 -- those at a place
-pub ask-at : (head : Head) (asks : List Ask) (i : ℕ) (other query : Query) (block : List ℕ) → Says head asks → i < length head.queries.items → query ≡ get_or head.queries.items i other → block ≡ (get_or asks i (query, block)).1
+ask-at : (head : Head) (asks : List Ask) (i : ℕ) (other query : Query) (block : List ℕ) → Says head asks → i < length head.queries.items → query ≡ get_or head.queries.items i other → block ≡ (get_or asks i (query, block)).1
     → get_or asks i (query, block) ≡ (query, block)
 ask-at head asks i other query block says lt here is =
     let count = asks-long head asks says in
     let own : get_or head.queries.items i other ≡ (get_or asks i (query, block)).0 =
     ap (λ (l : List Query). get_or l i other) says.queries ∙ get_or-map (λ (x : Ask). x.0) asks i (query, block) other (omega (arith, lt, count)) in
     pair-is (get_or asks i (query, block)) query block (sym own ∙ sym here) (sym is)
+
+-- Those that a walk over a head's queries comes to: its query, with the challenges that the head gives for the number of
+-- queries before it.
+pub ask-due : (head : Head) (asks : List Ask) (i number : ℕ) (items : List Query) (other : Query) (block : List ℕ) → Says head asks → items ≡ head.queries.items → i < length items → number ≡ i
+    → ((all : List Ask) (ask : Ask) → Says head all → block ≡ (slice_index_or all number ask).1)
+    → (i < length head.queries.items) × (get_or asks i (slice_index_or items i other, block) ≡ (slice_index_or items i other, block))
+ask-due head asks i number items other block says same lt at own =
+    let query = slice_index_or items i other in
+    let within = subst (λ (l : List Query). i < length l) same lt in
+    (within, ask-at head asks i other query block says within (ap (λ (l : List Query). get_or l i other) same) (rw at at (own asks (query, block) says)))
 
 -- no version goes deeper
 pub deepest-most : (version : Version) → deepest version ≤ 48

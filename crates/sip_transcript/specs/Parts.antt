@@ -1,9 +1,10 @@
 -- What reading a part of a head answers.
 use Rattle.std.specs.Prelude.{◌≡◌, ℕ, ◌+◌, ⊤, All, IsTrue, List, [], ◌∷◌, ◌++◌, ◌<◌, length, Option}
-use Rattle.std.specs.Prelude.{Some, None, Result, Ok, Err}
+use Rattle.std.specs.Prelude.{Some, None, Result, Ok, Err, IsErrOf, IsSome}
 use Rattle.std.specs.Io.KnownBytes.{Consumes}
 use Rattle.std.specs.List.{flat_map}
 use Rattle.sip_ports.specs.declared.port.PortStop.{PortStop}
+use Rattle.sip_ports.specs.Ports.{Lasts, Rose}
 use Rattle.sip_verifier.specs.Tasks.{CanBeAsked}
 use Rattle.sip_vector.specs.declared.query.Query.{Query}
 use Rattle.sip_wire.specs.declared.message.Message.TheVariants as messages
@@ -72,3 +73,12 @@ AsksIn version depth frame (Some query) =
 AsksIn version depth frame None =
     (rest : List ℕ) → (length frame < asked version ToHelper frame → rest ≡ [])
     → query_field version depth (frame ++ rest) ≡ None
+
+-- What holds of a source over a call that reads fields of a head: the call fails, or wants memory,
+-- only where the source's count of that rose; and what the source tells, it tells on.
+pub record ReadsOn {S T : Type 0} (left : S → Option (List ℕ)) (failures wants : S → ℕ)
+    (is_sure : S → Type 0) (old new : S) (result : Result T HeadFault) : Type 0 where
+  pub failed : IsErrOf result faults.ReadFault → Rose (failures old) (failures new)
+  pub memory : IsErrOf result faults.OutOfMemory → Rose (wants old) (wants new)
+  pub told : IsSome (left old) → IsSome (left new)
+  pub lasts : Lasts failures wants is_sure old new

@@ -1,13 +1,14 @@
 -- How far the writing of a transcript has come.
 use Rattle.std.specs.Prelude.{◌≡◌, ℕ, ◌+◌, All, List, ◌++◌, length, Option, Some, None, Result, Ok}
-use Rattle.std.specs.Prelude.{Err}
+use Rattle.std.specs.Prelude.{Err, IsSome}
 use Rattle.std.specs.List.{flat_map}
 use Rattle.sip_ports.specs.declared.port.TalkEvent.{TalkEvent}
-use Rattle.sip_ports.specs.Ports.{GoesOn, outs}
+use Rattle.sip_ports.specs.Ports.{GoesOn, Lasts, outs}
 use Rattle.sip_wire.specs.declared.message.Message.{Message}
 use Rattle.sip_wire.specs.declared.version.Version.{Version}
 use Rattle.sip_wire.specs.Spelling.{spelling}
 use Rattle.sip_wire.specs.Transcript.{transcript}
+use Rattle.sip_verifier.specs.Snapshots.{Counts, counts}
 use Rattle.sip_verifier.specs.declared.status.Status.{Status}
 use Rattle.sip_verifier.specs.declared.status.Status.TheVariants as statuses
 use Rattle.sip_transcript.specs.declared.head.Head.{Head}
@@ -67,3 +68,19 @@ PassesReply to bytes left start now version (Err status) =
 abbrev pub status_of : {T : Type 0} → Result T Status → Status
 status_of (Ok x) = statuses.Wrote
 status_of (Err status) = status
+
+-- ---- the ports
+
+-- What holds of the source and of the sink over a call that writes what a transcript tells: what
+-- the source tells, it tells on; both keep what lasts of them; and `Faults` of the counts of faults
+-- of all ports, whatever those of the others are.
+pub record KeepsPorts {B K : Type 0} (left : B → Option (List ℕ)) (fails wants : B → ℕ)
+    (is_sure : B → Type 0) (sink_fails sink_wants : K → ℕ) (sink_is_sure : K → Type 0)
+    (second seconds : B) (report reports : K) (Faults : Counts → Counts → Type 0)
+    : Type 0 where
+  pub told : IsSome (left second) → IsSome (left seconds)
+  pub fault : (first firsts peer peers keep keeps : ℕ)
+      → Faults (counts first (fails second) peer (sink_fails report) keep)
+      (counts firsts (fails seconds) peers (sink_fails reports) keeps)
+  pub source : Lasts fails wants is_sure second seconds
+  pub sink : Lasts sink_fails sink_wants sink_is_sure report reports

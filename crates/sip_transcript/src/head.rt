@@ -9,7 +9,7 @@ ghost use Rattle.sip_ports.specs.Ports.{Lasts, Rose};
 ghost use Rattle.sip_transcript.specs.Causes.{there_of};
 ghost use Rattle.sip_transcript.specs.Fields.{times, ask_fields, element_field};
 ghost use Rattle.sip_transcript.specs.Heads.{Ask, ReadsHead, Says};
-ghost use Rattle.sip_transcript.specs.Parts.{FailsIn, TakesBlock, TakesAsk};
+ghost use Rattle.sip_transcript.specs.Parts.{FailsIn, ReadsOn, TakesBlock, TakesAsk};
 
 use crate::HeadFault;
 use crate::fields::{read_challenge, read_count, read_depth, read_magic, read_query, read_version};
@@ -66,12 +66,7 @@ fn read_block<S: Source>(
         challenges.old.items challenges.new.items) }
     ensures bad { IfErr result (FailsIn (times levels (element_field ∷ [])) at
         (S.left source.old) (S.left source.new)) }
-    ensures failed { IsErrOf result HeadFault.ReadFault
-        → Rose (S.faults source.old) (S.faults source.new) }
-    ensures memory { IsErrOf result HeadFault.OutOfMemory
-        → Rose (S.wants source.old) (S.wants source.new) }
-    ensures told { IsSome (S.left source.old) → IsSome (S.left source.new) }
-    ensures lasts { Lasts S.faults S.wants S.is_sure source.old source.new }
+    ensures source { ReadsOn S.left S.faults S.wants S.is_sure source.old source.new result }
 {
     for level in 0..levels {
         let challenge = there(read_challenge(source), at + CHALLENGE * level as u64)?;
@@ -104,12 +99,7 @@ impl Head {
             (TakesAsk (S.left source.old) (S.left source.new) self.old self.new) }
         ensures bad { IfErr result (FailsIn (ask_fields self.old.version self.old.depth)
             self.old.length (S.left source.old) (S.left source.new)) }
-        ensures failed { IsErrOf result HeadFault.ReadFault
-            → Rose (S.faults source.old) (S.faults source.new) }
-        ensures memory { IsErrOf result HeadFault.OutOfMemory
-            → Rose (S.wants source.old) (S.wants source.new) }
-        ensures told { IsSome (S.left source.old) → IsSome (S.left source.new) }
-        ensures lasts { Lasts S.faults S.wants S.is_sure source.old source.new }
+        ensures source { ReadsOn S.left S.faults S.wants S.is_sure source.old source.new result }
     {
         let levels = self.depth.get();
         let asked = there(read_query(source, self.version, self.depth), self.length)?;

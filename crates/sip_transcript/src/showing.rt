@@ -9,7 +9,8 @@ ghost use Rattle.sip_verifier.specs.Statuses.{FaultClause, Stops};
 ghost use Rattle.sip_transcript.specs.Conversions.{in_version_2};
 ghost use Rattle.sip_transcript.specs.Listings.{listing};
 ghost use Rattle.sip_transcript.specs.Renderings.{rendered};
-ghost use Rattle.sip_transcript.specs.Underway.{Begins, IsUnderway, PassesReply, status_of};
+ghost use Rattle.sip_transcript.specs.Underway.{Begins, IsUnderway, KeepsPorts, PassesReply};
+ghost use Rattle.sip_transcript.specs.Underway.{status_of};
 ghost use Rattle.sip_transcript.specs.Writing.{EndsWriting, Writes, stops_writing};
 
 use crate::frames::{Reply, take_reply};
@@ -25,12 +26,9 @@ use std::alloc::Global;
 fn begin<B: Source, K: Sink>(to: Rendering, second: &mut B, report: &mut K) -> Result<Head, Status>
     ensures begins { (bytes : List ℕ) → B.left second.old ≡ Some bytes
         → Begins to bytes (B.left second.new) (K.talk report.old) (K.talk report.new) result }
-    ensures told { IsSome (B.left second.old) → IsSome (B.left second.new) }
-    ensures fault { (first firsts peer peers keep keeps : ℕ) → Stops stops_writing
-        (counts first (B.faults second.old) peer (K.faults report.old) keep)
-        (counts firsts (B.faults second.new) peers (K.faults report.new) keeps) result }
-    ensures second { Lasts B.faults B.wants B.is_sure second.old second.new }
-    ensures report { Lasts K.faults K.wants K.is_sure report.old report.new }
+    ensures ports { KeepsPorts B.left B.faults B.wants B.is_sure K.faults K.wants K.is_sure
+        second.old second.new report.old report.new
+        (λ before now. Stops stops_writing before now result) }
 {
     let head = match TranscriptReader::head(second) {
         Ok(head) => head,
@@ -55,13 +53,10 @@ fn pass_reply<B: Source, K: Sink>(
     ensures passes { (bytes : List ℕ) (start : Option (List TalkEvent))
         → IsUnderway to bytes (B.left second.old) start (K.talk report.old) version place
         → PassesReply to bytes (B.left second.new) start (K.talk report.new) version result }
-    ensures told { IsSome (B.left second.old) → IsSome (B.left second.new) }
     ensures further { IfOk result (λ next. IfSome next (λ after. place < after)) }
-    ensures fault { (first firsts peer peers keep keeps : ℕ) → Stops stops_writing
-        (counts first (B.faults second.old) peer (K.faults report.old) keep)
-        (counts firsts (B.faults second.new) peers (K.faults report.new) keeps) result }
-    ensures second { Lasts B.faults B.wants B.is_sure second.old second.new }
-    ensures report { Lasts K.faults K.wants K.is_sure report.old report.new }
+    ensures ports { KeepsPorts B.left B.faults B.wants B.is_sure K.faults K.wants K.is_sure
+        second.old second.new report.old report.new
+        (λ before now. Stops stops_writing before now result) }
 {
     let reply = match take_reply(second, version, frame) {
         Ok(reply) => reply,
@@ -92,12 +87,9 @@ fn write_all<B: Source, K: Sink>(
     ensures writes { (bytes : List ℕ) → B.left second.old ≡ Some bytes
         → Writes (rendered to) bytes (B.left second.new) (K.talk report.old) (K.talk report.new)
         (status_of result) }
-    ensures told { IsSome (B.left second.old) → IsSome (B.left second.new) }
-    ensures fault { (first firsts peer peers keep keeps : ℕ) → Stops stops_writing
-        (counts first (B.faults second.old) peer (K.faults report.old) keep)
-        (counts firsts (B.faults second.new) peers (K.faults report.new) keeps) result }
-    ensures second { Lasts B.faults B.wants B.is_sure second.old second.new }
-    ensures report { Lasts K.faults K.wants K.is_sure report.old report.new }
+    ensures ports { KeepsPorts B.left B.faults B.wants B.is_sure K.faults K.wants K.is_sure
+        second.old second.new report.old report.new
+        (λ before now. Stops stops_writing before now result) }
 {
     let head = begin(to, second, report)?;
     let mut place = head.length;
@@ -117,13 +109,10 @@ fn render<B: Source, K: Sink>(
     ensures writes { (bytes : List ℕ) → B.left second.old ≡ Some bytes
         → Writes (rendered to) bytes (B.left second.new) (K.talk report.old) (K.talk report.new)
         result }
-    ensures told { IsSome (B.left second.old) → IsSome (B.left second.new) }
-    ensures fault { (first firsts peer peers keep keeps : ℕ) → FaultClause
-        (counts first (B.faults second.old) peer (K.faults report.old) keep)
-        (counts firsts (B.faults second.new) peers (K.faults report.new) keeps) result }
     ensures listed { EndsWriting result }
-    ensures second { Lasts B.faults B.wants B.is_sure second.old second.new }
-    ensures report { Lasts K.faults K.wants K.is_sure report.old report.new }
+    ensures ports { KeepsPorts B.left B.faults B.wants B.is_sure K.faults K.wants K.is_sure
+        second.old second.new report.old report.new
+        (λ before now. FaultClause before now result) }
 {
     let Ok(mut frame) = Frame::new(alloc) else {
         return Status::OutOfMemory;
