@@ -1,12 +1,13 @@
 //! The command whose helpers are several, all in the program.
 
 ghost use Rattle.std.specs.Prelude.{◌≡◌, ◌≢◌, ◌*◌, ◌<◌, ◌≤◌, None, IfOk, OnErr, MatchOption};
-ghost use Rattle.std.specs.Prelude.{length};
+ghost use Rattle.std.specs.Prelude.{ℕ, List, Some, length};
 ghost use Rattle.arrayvec.specs.ArrayVec.{ArrayVec as AnyNames};
 ghost use Rattle.sip_ports.specs.Ports.{Lasts};
 ghost use Rattle.sip_session.specs.PanelExchanges.{panel_snapshot};
 ghost use Rattle.sip_verifier.specs.declared.task.Task.{Task as AnyTask};
 ghost use Rattle.sip_verifier.specs.Exchanges.{TakesAtMost};
+ghost use Rattle.sip_verifier.specs.Negatives.{NegativesClause};
 ghost use Rattle.sip_verifier.specs.Tasks.{CanBeDone};
 ghost use Rattle.sip_wire.specs.Table.{most_queries};
 ghost use Rattle.sip_cli.specs.declared.helper_name.HelperName.{HelperName as AnyName};
@@ -18,6 +19,7 @@ use crate::{Command, HelperName};
 use sip_duel::{Helper, HelperLink, Mute};
 use sip_field::OutOfMemory;
 use sip_ports::{Sink, Source};
+use sip_vector::Negatives;
 use sip_verifier::{Status, Task};
 use std::alloc::Global;
 
@@ -30,6 +32,7 @@ fn panel_named<A: Source, B: Source, K: Sink>(
     first: &mut A,
     second: &mut B,
     report: &mut K,
+    negatives: &mut Negatives,
 ) -> Result<Status, OutOfMemory>
     requires done { CanBeDone task.now }
     requires some { 0 < length names.now }
@@ -39,6 +42,9 @@ fn panel_named<A: Source, B: Source, K: Sink>(
         (B.faults second.old) talks (K.talk report.old) (K.faults report.old))
         (λ talks. panel_snapshot (A.left first.new) (A.faults first.new) (B.left second.new)
         (B.faults second.new) talks (K.talk report.new) (K.faults report.new))) }
+    ensures negatives { (bytes seed : List ℕ)
+        → A.left first.old ≡ Some bytes → B.left second.old ≡ Some seed
+        → IfOk result (λ status. NegativesClause task.now bytes status negatives.new) }
     ensures unbegun { OnErr result ((first.new ≡ first.old) × (second.new ≡ second.old)
         × (report.new ≡ report.old)) }
     ensures first { Lasts A.faults A.wants A.is_sure first.old first.new }
@@ -55,7 +61,8 @@ fn panel_named<A: Source, B: Source, K: Sink>(
         };
         links.push(HelperLink::new(alloc, helper)?)?;
     }
-    Ok(sip_session::panel(alloc, task, first, second, &mut links, report))
+    let links = &mut links;
+    Ok(sip_session::panel(alloc, task, first, second, links, report, negatives))
 }
 
 /// Does a command `panel`; another one gives `None`, and then no port is called.
@@ -65,7 +72,7 @@ fn panel_named<A: Source, B: Source, K: Sink>(
 /// whose line is written. A helper whose replies are rejected is asked no more, and a line says so.
 /// At the end each is closed and dropped. Memory grows with the entries that are not 0, which each
 /// helper keeps, and with the talks, which the links keep. Where memory is refused to a helper or a
-/// link, the run ends at once for want of it.
+/// link, the run ends at once for want of it. `negatives` gets what [`obey`](crate::obey) tells.
 #[inline(never)]
 pub fn panel<A: Source, B: Source, K: Sink>(
     alloc: Global,
@@ -73,6 +80,7 @@ pub fn panel<A: Source, B: Source, K: Sink>(
     first: &mut A,
     second: &mut B,
     report: &mut K,
+    negatives: &mut Negatives,
 ) -> Option<Status>
     requires { IsSpelled command.now }
     // All that a panel keeps, over as many links as there are names.
@@ -84,9 +92,11 @@ pub fn panel<A: Source, B: Source, K: Sink>(
         (λ talks. panel_snapshot (A.left first.old) (A.faults first.old) (B.left second.old)
         (B.faults second.old) talks (K.talk report.old) (K.faults report.old))
         (λ talks. panel_snapshot (A.left first.new) (A.faults first.new) (B.left second.new)
-        (B.faults second.new) talks (K.talk report.new) (K.faults report.new)) status) }
+        (B.faults second.new) talks (K.talk report.new) (K.faults report.new)) status
+        × ((bytes seed : List ℕ) → A.left first.old ≡ Some bytes → B.left second.old ≡ Some seed
+        → NegativesClause task bytes status negatives.new)) }
     ensures untouched { result ≡ None → (first.new ≡ first.old) × (second.new ≡ second.old)
-        × (report.new ≡ report.old) }
+        × (report.new ≡ report.old) × (negatives.new ≡ negatives.old) }
 
     // Counts of faults and of wants of memory never fall, and no more than 32 bytes of the seed are
     // taken.
@@ -98,8 +108,11 @@ pub fn panel<A: Source, B: Source, K: Sink>(
     let Command::Panel(task, names) = command else {
         return None;
     };
-    match panel_named(alloc, task, names, first, second, report) {
+    match panel_named(alloc, task, names, first, second, report, negatives) {
         Ok(status) => Some(status),
-        Err(_) => Some(Status::OutOfMemory),
+        Err(_) => {
+            *negatives = Negatives::default();
+            Some(Status::OutOfMemory)
+        }
     }
 }

@@ -1,9 +1,8 @@
 //! The top calls.
 
-ghost use Rattle.std.specs.Prelude.{◌≡◌, ◌↔◌, ℕ, List, Some, MatchOption};
+ghost use Rattle.std.specs.Prelude.{◌≡◌, ◌↔◌, ℕ};
 ghost use Rattle.sip_ports.specs.Ports.{Lasts};
-ghost use Rattle.sip_verifier.specs.Negatives.{NegativesClause};
-ghost use Rattle.sip_cli.specs.Checking.{checked_task};
+ghost use Rattle.sip_cli.specs.Checking.{TellsNegatives};
 ghost use Rattle.sip_cli.specs.DoneClause.{DoneClause, used};
 ghost use Rattle.sip_cli.specs.Words.{IsSpelled, Spells, IsRefusedAt};
 
@@ -62,8 +61,8 @@ use std::alloc::Global;
 /// `helplook FROM TO` and `helpmom FROM TO`: serve one talk of lookups, or of moments, over `peer`.
 /// Memory grows with the entries that are not 0.
 ///
-/// `negatives` gets of `verify`, `play` and `panel` which sides of the stream had a delta below 0,
-/// of those whose large entries are asked for.
+/// `negatives` gets of `verify`, `play`, `panel` and `audit` which sides of the stream had a delta
+/// below 0, of those whose large entries are asked for.
 pub fn obey<A: Source, B: Source, L: Link, K: Sink, C: Sink>(
     alloc: Global,
     command: &Command,
@@ -89,11 +88,8 @@ pub fn obey<A: Source, B: Source, L: Link, K: Sink, C: Sink>(
         (used C.talk C.faults C.wants keep.old keep.new) result }
 
     // Of a command that checks queries, which sides had a delta below 0; others leave it alone.
-    ensures negatives { MatchOption (checked_task command.now)
-        (negatives.new ≡ negatives.old)
-        (λ task. (bytes seed : List ℕ)
-        → A.left first.old ≡ Some bytes → B.left second.old ≡ Some seed
-        → NegativesClause task bytes result negatives.new) }
+    ensures negatives { TellsNegatives command.now (A.left first.old) (B.left second.old) result
+        negatives.old negatives.new }
 
     // Counts of faults and of wants of memory never fall.
     ensures first { Lasts A.faults A.wants A.is_sure first.old first.new }
@@ -110,7 +106,7 @@ pub fn obey<A: Source, B: Source, L: Link, K: Sink, C: Sink>(
             check_stream(alloc, task, first, second, peer, report, keep, negatives)
         }
         Command::Help => help(alloc, peer),
-        Command::Audit { form } => audit(alloc, *form, first, second, report),
+        Command::Audit { form } => audit(alloc, *form, first, second, report, negatives),
         Command::Show => show(alloc, second, report),
         Command::Convert => convert(alloc, second, report),
         Command::Gen { depth } => {

@@ -1,4 +1,4 @@
-use Rattle.std.proofs.Common.{subst}
+use Rattle.std.proofs.Common.{◌≡◌, false, true, inr, subst, rules}
 use Rattle.sip_cli.specs.Words.{Spells, word}
 use Rattle.sip_cli.proofs.HelperWords.{some_named}
 use Rattle.sip_cli.proofs.PanelLemmas.{unbegun}
@@ -26,4 +26,14 @@ returns-in-Err-clause-seated g c =
       _,
       c.in-Panel.is,
       rw (same.0, same.1, same.2) (unbegun _ _ (some_named (word c.requires.0 3) _ spells.2) (seated _ _ _ spells) spells.1.depth.0 spells.1.depth.1 (seats_for_all _ _ _ spells) _ _ _ _ _ _),
+      λ bytes seed read drawn. record { judged = λ (judged : false ≡ true). absurd cc; other = inr (search rules) },
     )
+
+pub returns-in-Ok-clause-seated : goal.returns-in-Ok-clause-seated
+returns-in-Ok-clause-seated g c = (
+  c.in-Panel.task,
+  c.in-Panel.names,
+  c.in-Panel.is,
+  rw c.deref.ensures.0 at c.in-Ok.ensures.seated,
+  c.in-Ok.ensures.negatives,
+)

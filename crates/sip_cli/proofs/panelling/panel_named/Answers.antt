@@ -23,3 +23,6 @@ returns-clause-seated g c =
       peer = c.panel.ensures.peer;
       keep = c.panel.ensures.keep;
     }
+
+pub returns-clause-negatives : goal.returns-clause-negatives
+returns-clause-negatives g c = c.panel.ensures.negatives

@@ -144,7 +144,7 @@ pub returns-in-Help-clause-negatives : goal.returns-in-Help-clause-negatives
 returns-in-Help-clause-negatives g c = rw c.in-Help.is refl
 
 pub returns-in-Audit-clause-negatives : goal.returns-in-Audit-clause-negatives
-returns-in-Audit-clause-negatives g c = rw c.in-Audit.is refl
+returns-in-Audit-clause-negatives g c = rw c.in-Audit.is c.audit.ensures.negatives
 
 pub returns-in-Show-clause-negatives : goal.returns-in-Show-clause-negatives
 returns-in-Show-clause-negatives g c = rw c.in-Show.is refl
