@@ -1,7 +1,7 @@
 // A vector of the greatest depth with many entries far from each other.
 
 use crate::facts::expect;
-use crate::vector_calls::{added, number_at, zeros};
+use crate::vector_calls::{Watched, number_at, zeros};
 use sip_vector::{Depth, Vector};
 use std::alloc::Global;
 use std::process::Abort;
@@ -41,25 +41,18 @@ impl Far {
         })
     }
 
-    // Where memory is refused the vector must be as it was, and take the addition then.
     fn add(&mut self, rt: &impl Abort) -> Result<(), Fail> {
         let (index, delta) = (item(self.count), delta(self.count));
-        if !added(&mut self.vector, index, delta)? {
-            self.shows(rt);
-            expect(rt, 16, &[added(&mut self.vector, index, delta)?]);
-        }
+        self.take(rt, index, delta)?;
         self.total = self.total.wrapping_add(delta);
         self.count = self.count.wrapping_add(1);
         Ok(())
     }
+}
 
-    // The same for what is pending.
-    fn settle(&mut self, rt: &impl Abort) -> Result<(), Fail> {
-        if self.vector.settle().is_err() {
-            self.shows(rt);
-            self.vector.settle()?;
-        }
-        Ok(())
+impl Watched for Far {
+    fn vector(&mut self) -> &mut Vector {
+        &mut self.vector
     }
 
     // The total, and the numbers at some items: those of the first additions, of later ones, and of

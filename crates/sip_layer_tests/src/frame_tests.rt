@@ -2,8 +2,8 @@ ghost use Rattle.std.specs.Prelude.{◌≤◌};
 
 use crate::facts::expect;
 use crate::frames::{
-    ASKED_FAULTS, ASKED_FRAMES, ASKED_NUMBERS, FAULTS, FRAMES, NUMBERS, WIDE_FAULTS, WIDE_FRAMES,
-    WIDE_NUMBERS,
+    ASKED_FAULTS, ASKED_FRAMES, ASKED_NUMBERS, FAULTS, FRAMES, NUMBERS, OPENING_FAULTS,
+    WIDE_FAULTS, WIDE_FRAMES, WIDE_NUMBERS,
 };
 use sip_ports::{MemoryLink, MemorySink};
 use sip_wire::{Frame, Message, Place, Version, WireFault, decode, encode, frame_length, read};
@@ -168,8 +168,11 @@ fn faults_are_the_first(rt: HostRuntime) -> Result<(), Fail> {
     let alloc = rt.alloc();
     faults_hold(&rt, alloc, Version::One, &FAULTS)?;
     faults_hold(&rt, alloc, Version::Two, &WIDE_FAULTS)?;
-    faults_hold(&rt, alloc, Version::One, &ASKED_FAULTS)?;
-    faults_hold(&rt, alloc, Version::Two, &ASKED_FAULTS)
+    for version in [Version::One, Version::Two] {
+        faults_hold(&rt, alloc, version, &OPENING_FAULTS)?;
+        faults_hold(&rt, alloc, version, &ASKED_FAULTS)?;
+    }
+    Ok(())
 }
 
 // The frame of these parts.

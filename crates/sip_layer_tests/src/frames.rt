@@ -100,7 +100,7 @@ pub(crate) const WIDE_FRAMES: [(Place, &[u8]); 11] = [
 
 /// Bytes that are no frame of version 1, where they are awaited, their fault, and how many of them
 /// are taken.
-pub(crate) const FAULTS: [(Place, &[u8], WireFault, usize); 52] = [
+pub(crate) const FAULTS: [(Place, &[u8], WireFault, usize); 48] = [
     // The three bytes before a body come whole before the kind is tested.
     (Place::ToHelper, b"", WireFault::Closed, 0),
     (Place::ToHelper, b"\x07\0", WireFault::Closed, 2),
@@ -183,36 +183,12 @@ pub(crate) const FAULTS: [(Place, &[u8], WireFault, usize); 52] = [
         WireFault::BadCount,
         25,
     ),
-    // A version, a depth and a refusal that there are not.
-    (
-        Place::ToHelper,
-        b"\x01\0\x02\x03\x01",
-        WireFault::BadNumber,
-        5,
-    ),
-    (
-        Place::ToHelper,
-        b"\x01\0\x02\x02\x31",
-        WireFault::BadNumber,
-        5,
-    ),
-    (
-        Place::ToHelper,
-        b"\x01\0\x02\x01\0",
-        WireFault::BadNumber,
-        5,
-    ),
-    (
-        Place::ToHelper,
-        b"\x01\0\x02\x01\x21",
-        WireFault::BadNumber,
-        5,
-    ),
+    // A refusal that there is not.
     (Place::Poly, b"\x18\0\x01\x05", WireFault::BadNumber, 4),
 ];
 
 /// The same for version 2.
-pub(crate) const WIDE_FAULTS: [(Place, &[u8], WireFault, usize); 17] = [
+pub(crate) const WIDE_FAULTS: [(Place, &[u8], WireFault, usize); 13] = [
     // The lengths of version 1 are none.
     (Place::ToHelper, b"\x02\0\x0f", WireFault::BadLength, 3),
     (Place::ToHelper, b"\x02\x22\x13", WireFault::BadLength, 3),
@@ -258,10 +234,13 @@ pub(crate) const WIDE_FAULTS: [(Place, &[u8], WireFault, usize); 17] = [
         WireFault::BadCount,
         29,
     ),
-    // An opening is one in both versions.
+];
+
+/// Openings of a version or a depth that there are not, in both versions.
+pub(crate) const OPENING_FAULTS: [(Place, &[u8], WireFault, usize); 5] = [
     (
         Place::ToHelper,
-        b"\x01\0\x02\x01\x21",
+        b"\x01\0\x02\x03\x01",
         WireFault::BadNumber,
         5,
     ),
@@ -279,7 +258,13 @@ pub(crate) const WIDE_FAULTS: [(Place, &[u8], WireFault, usize); 17] = [
     ),
     (
         Place::ToHelper,
-        b"\x01\0\x02\x03\x01",
+        b"\x01\0\x02\x01\0",
+        WireFault::BadNumber,
+        5,
+    ),
+    (
+        Place::ToHelper,
+        b"\x01\0\x02\x01\x21",
         WireFault::BadNumber,
         5,
     ),

@@ -1,7 +1,9 @@
 // What a vector shows while additions are pending, and after memory was refused to it.
 
 use crate::facts::expect;
-use crate::vector_calls::{added, count_between, final_entry, first_entry, number_at, zeros};
+use crate::vector_calls::{
+    Watched, added, count_between, final_entry, first_entry, number_at, zeros,
+};
 use sip_vector::{Depth, Entry, Vector};
 use std::alloc::Global;
 use std::process::Abort;
@@ -36,23 +38,10 @@ impl Pair {
         self.add_at(rt, index, delta)
     }
 
-    // Where memory is refused the vector must be as it was, and take the addition then.
     fn add_at(&mut self, rt: &impl Abort, index: u64, delta: i64) -> Result<(), Fail> {
-        if !added(&mut self.vector, index, delta)? {
-            self.shows(rt);
-            expect(rt, 0, &[added(&mut self.vector, index, delta)?]);
-        }
+        self.take(rt, index, delta)?;
         if let Some(number) = self.numbers.get_mut(index as usize) {
             *number = number.wrapping_add(delta);
-        }
-        Ok(())
-    }
-
-    // The same for what is pending.
-    fn settle(&mut self, rt: &impl Abort) -> Result<(), Fail> {
-        if self.vector.settle().is_err() {
-            self.shows(rt);
-            self.vector.settle()?;
         }
         Ok(())
     }
@@ -75,28 +64,6 @@ impl Pair {
             index = index.wrapping_add(1);
         }
         (first, count)
-    }
-
-    // Each call that takes no memory.
-    fn shows(&self, rt: &impl Abort) {
-        let mut total = 0i64;
-        let mut is_strict = true;
-        for (index, number) in self.numbers.iter().enumerate() {
-            let shown = number_at(&self.vector, index as u64);
-            expect(rt, index, &[shown == Some(*number)]);
-            total = total.wrapping_add(*number);
-            is_strict &= *number >= 0;
-        }
-        let facts = [
-            self.vector.total() == total,
-            self.vector.is_strict() == is_strict,
-        ];
-        expect(rt, 8, &facts);
-        for from in 0..8u64 {
-            for hi in 0..8u64 {
-                self.finds(rt, from, hi);
-            }
-        }
     }
 
     fn finds(&self, rt: &impl Abort, from: u64, hi: u64) {
@@ -125,6 +92,34 @@ impl Pair {
         self.settle(rt)?;
         are_entries(rt, &shared, &numbers);
         self.lends(rt)
+    }
+}
+
+impl Watched for Pair {
+    fn vector(&mut self) -> &mut Vector {
+        &mut self.vector
+    }
+
+    // Each call that takes no memory.
+    fn shows(&self, rt: &impl Abort) {
+        let mut total = 0i64;
+        let mut is_strict = true;
+        for (index, number) in self.numbers.iter().enumerate() {
+            let shown = number_at(&self.vector, index as u64);
+            expect(rt, index, &[shown == Some(*number)]);
+            total = total.wrapping_add(*number);
+            is_strict &= *number >= 0;
+        }
+        let facts = [
+            self.vector.total() == total,
+            self.vector.is_strict() == is_strict,
+        ];
+        expect(rt, 8, &facts);
+        for from in 0..8u64 {
+            for hi in 0..8u64 {
+                self.finds(rt, from, hi);
+            }
+        }
     }
 }
 

@@ -1,8 +1,10 @@
 //! The calls of a vector and of a level, with no answer where the arguments are none of theirs.
 
+use crate::facts::expect;
 use sip_field::{Field, OutOfMemory};
 use sip_vector::{Depth, Entry, Level, Vector};
 use std::alloc::Global;
+use std::process::Abort;
 use std::test::Fail;
 
 const MOST_WEIGHT: u64 = (1 << 30) - 1;
@@ -41,6 +43,30 @@ pub(crate) fn added(vector: &mut Vector, index: u64, delta: i64) -> Result<bool,
         return Err("no addition of this vector")?;
     }
     Ok(vector.add(index, delta).is_ok())
+}
+
+// A vector beside what it must show. Where memory is refused to it, it must be as it was, and do
+// then what was asked.
+pub(crate) trait Watched {
+    fn vector(&mut self) -> &mut Vector;
+
+    fn shows(&self, rt: &impl Abort);
+
+    fn take(&mut self, rt: &impl Abort, index: u64, delta: i64) -> Result<(), Fail> {
+        if !added(self.vector(), index, delta)? {
+            self.shows(rt);
+            expect(rt, 16, &[added(self.vector(), index, delta)?]);
+        }
+        Ok(())
+    }
+
+    fn settle(&mut self, rt: &impl Abort) -> Result<(), Fail> {
+        if self.vector().settle().is_err() {
+            self.shows(rt);
+            self.vector().settle()?;
+        }
+        Ok(())
+    }
 }
 
 // A vector of zeros, which is asked for again where memory was refused to it.
