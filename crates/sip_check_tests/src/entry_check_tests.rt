@@ -137,7 +137,8 @@ fn replies_have_their_answers(rt: HostRuntime) {
     are_answered(&rt, &root_of_four(true), &OF_ZEROS);
 }
 
-fn root_of_pair(r: u64) -> Root<F31, CAP>
+// The root of (3, 5) at this challenge.
+pub(crate) fn root_of_pair(r: u64) -> Root<F31, CAP>
     ensures { length result.seat ≡ 1 }
 {
     let mut root = Root::new(Seat::of(&[F31::of(r)]).unwrap());

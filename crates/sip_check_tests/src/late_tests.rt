@@ -3,6 +3,7 @@
 // one question. The numbers were worked out by hand.
 ghost use Rattle.std.specs.Prelude.{◌≡◌, ◌≤◌, nat_abs, length};
 
+use crate::entry_check_tests::root_of_pair;
 use crate::facts::expect;
 use sip_field::{F31, Field, Seat};
 use sip_subvec::SubCheck;
@@ -39,15 +40,6 @@ fn claimed(more: u64) -> i64
     } else {
         number as i64
     }
-}
-
-fn root_of_pair(r: u64) -> Root<F31, CAP>
-    ensures { length result.seat ≡ 1 }
-{
-    let mut root = Root::new(Seat::of(&[F31::of(r)]).unwrap());
-    root.update(0, 3);
-    root.update(1, 5);
-    root
 }
 
 // What a check of the entry 0 answers to this claim and the right sibling 4, which is one too few:

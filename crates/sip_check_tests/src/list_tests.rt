@@ -6,7 +6,7 @@ ghost use Rattle.std.specs.Prelude.{slice_index, vec_len, vec_capacity, IfOk, Is
 ghost use Rattle.sip_vector.specs.declared.update.Entry.{Entry as AnyEntry};
 ghost use Rattle.sip_check_tests.specs.ListToy.{ListStands, list_rules};
 
-use crate::events::events;
+use crate::events::happened;
 use crate::facts::expect;
 use sip_field::{Field, M61, Seat};
 use sip_ports::{MemoryLink, MemorySink};
@@ -90,6 +90,12 @@ impl<'a> Check for ListCheck<'a> {
 
     fn take(&mut self, message: &Message, places: &mut [Entry]) -> Result<More, Reason> {
         match message {
+            Message::LevelEnd => {
+                let depth = self.seat.depth();
+                prove!(self.taken < depth);
+                self.taken += 1;
+                Ok(More::Complete)
+            }
             Message::Claim { value } => {
                 if self.count >= self.most {
                     return Err(Reason::TooMany);
@@ -100,12 +106,6 @@ impl<'a> Check for ListCheck<'a> {
                 };
                 self.count += 1;
                 Ok(More::Due)
-            }
-            Message::LevelEnd => {
-                let depth = self.seat.depth();
-                prove!(self.taken < depth);
-                self.taken += 1;
-                Ok(More::Complete)
             }
             Message::Refuse { code } => Err(Reason::Refused(*code)),
             _ => Err(Reason::BadKind),
@@ -279,12 +279,14 @@ fn asked_of(
 fn check_row(rt: &impl Abort, alloc: Global, number: usize, row: &ListRow) -> Result<(), Fail> {
     let mut places = vec![in alloc; FREE; row.places.len()].expect(rt, "memory");
     let talked = asked_of(alloc, row.frames, &mut places, row.fails)?;
+    let (link, keep) = (&talked.link, &talked.keep);
+    let [talk, kept] = happened(alloc, (link, row.talk), (keep, row.kept)).expect(rt, "memory");
     let facts = [
         talked.said == row.said,
         places.as_slice() == row.places,
         talked.learnt.as_slice() == row.learnt,
-        talked.link.talk() == events(alloc, row.talk).expect(rt, "memory").as_slice(),
-        talked.keep.bytes() == row.kept.concat(alloc).expect(rt, "memory").as_slice(),
+        talk,
+        kept,
     ];
     expect(rt, number, &facts);
     Ok(())

@@ -66,3 +66,24 @@ pub fn first_unserved<S: Server>(
     }
     Ok(None)
 }
+
+/// The number of the first call of the link at which a talk does not go as it has to: where one of
+/// so many calls fails it ends in the first way, and where none of them does, in the second; and a
+/// front of what is sent else is sent. The talk is what the helper receives, part by part, and what
+/// it sends.
+pub fn first_call_unserved<S: Server>(
+    alloc: Global,
+    (parts, sent): (&[&[u8]], &[&[u8]]),
+    calls: u64,
+    (fault, end): (S::End, S::End),
+) -> Result<Option<u64>, OutOfMemory> {
+    let (talk, whole) = (parts.concat(alloc)?, sent.concat(alloc)?);
+    for call in 1..=calls.saturating_add(1) {
+        let (ended, sent) = served::<S>(alloc, &talk, 10_000, &[call])?;
+        let want = if call <= calls { fault } else { end };
+        if ended != want || !whole.starts_with(sent.as_slice()) {
+            return Ok(Some(call));
+        }
+    }
+    Ok(None)
+}

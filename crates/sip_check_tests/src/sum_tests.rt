@@ -8,7 +8,7 @@ ghost use Rattle.sip_field.specs.Elements.{m61_number};
 ghost use Rattle.sip_replies.specs.Protocols.{Begins};
 ghost use Rattle.sip_check_tests.specs.SumToy.{value_of, sum_of_ends, SumStands, sum_rules};
 
-use crate::events::events;
+use crate::events::{happened, ports_of};
 use crate::facts::expect;
 use sip_field::{Field, M61, Seat};
 use sip_ports::{MemoryLink, MemorySink};
@@ -102,26 +102,21 @@ impl<'a> Check for SumCheck<'a> {
     }
 
     fn place(&self) -> Place {
-        match self.claim {
-            None => Place::Claim,
-            Some(_) => Place::Poly,
+        if self.claim.is_some() {
+            Place::Poly
+        } else {
+            Place::Claim
         }
     }
 
     fn take(&mut self, message: &Message, _places: &mut [Entry]) -> Result<More, Reason> {
         match message {
-            Message::Claim { value } => {
-                if self.claim.is_some() {
-                    return Err(Reason::BadKind);
-                }
+            Message::Claim { value } if self.claim.is_none() => {
                 self.claim = Some(*value);
                 self.expected = M61::of_signed(*value);
                 Ok(More::Due)
             }
-            Message::Poly { c0, c1, c2 } => {
-                if self.claim.is_none() {
-                    return Err(Reason::BadKind);
-                }
+            Message::Poly { c0, c1, c2 } if self.claim.is_some() => {
                 let c0 = M61::of(*c0);
                 let c1 = M61::of(*c1);
                 let c2 = M61::of(*c2);
@@ -235,8 +230,7 @@ fn asked_of(
 ) -> Result<(Result<Said, AskStop>, MemoryLink, MemorySink), Fail> {
     let seat = Seat::of(&[M61::of(2), M61::of(5)]).unwrap();
     let mut check = SumCheck::start(&seat, value);
-    let mut link = MemoryLink::new(alloc, incoming.to_vec(alloc)?, 7, Vec::new(alloc));
-    let mut keep = MemorySink::new(alloc, 5, Vec::new(alloc));
+    let (mut link, mut keep) = ports_of(alloc, incoming)?;
     let mut frame = Frame::new(alloc)?;
     let said = ask(
         &mut check,
@@ -253,12 +247,8 @@ fn asked_of(
 fn check_row(rt: &impl Abort, alloc: Global, number: usize, row: &SumRow) -> Result<(), Fail> {
     let incoming = row.incoming.concat(alloc).expect(rt, "memory");
     let (said, link, keep) = asked_of(alloc, &incoming, 9)?;
-    let facts = [
-        said == row.said,
-        link.talk() == events(alloc, row.talk).expect(rt, "memory").as_slice(),
-        keep.bytes() == row.kept.concat(alloc).expect(rt, "memory").as_slice(),
-    ];
-    expect(rt, number, &facts);
+    let [talk, kept] = happened(alloc, (&link, row.talk), (&keep, row.kept)).expect(rt, "memory");
+    expect(rt, number, &[said == row.said, talk, kept]);
     Ok(())
 }
 
