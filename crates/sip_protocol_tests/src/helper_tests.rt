@@ -4,7 +4,7 @@ use crate::talks::{
     BYE, END, ENDS, ENTRIES, ENTRY_AND_SIBLINGS, HITTERS, NO_SIBLINGS, REFUSALS, REVEALED,
     SHARES_IN_VERSION_1, STREAM, SUB_1_2, SUMS, Talk,
 };
-use sip_check_tests::serving::{Server, first_unserved, is_served, served};
+use sip_check_tests::serving::{Server, first_call_unserved, first_unserved, is_served};
 use sip_helper::{HelpStatus, serve};
 use sip_ports::MemoryLink;
 use std::alloc::Global;
@@ -61,21 +61,11 @@ fn hitters_are_refused(rt: HostRuntime) {
 // all.
 #[test]
 fn a_link_fails_at_each_call(rt: HostRuntime) {
-    let alloc = rt.alloc();
     let parts: [&[u8]; 4] = [&STREAM, &SUB_1_2, &REVEALED, &BYE];
-    let talk = parts.concat(alloc).expect(&rt, "memory");
-    let parts: [&[u8]; 2] = [&ENTRY_AND_SIBLINGS, &NO_SIBLINGS];
-    let replies = parts.concat(alloc).expect(&rt, "memory");
-    for call in 1..15 {
-        let (status, sent) = served::<Helper>(alloc, &talk, 10_000, &[call]).expect(&rt, "memory");
-        let want = if call < 14 {
-            HelpStatus::PeerFault
-        } else {
-            HelpStatus::Served
-        };
-        let facts = [status == want, replies.starts_with(sent.as_slice())];
-        expect(&rt, call as usize, &facts);
-    }
+    let sent: [&[u8]; 2] = [&ENTRY_AND_SIBLINGS, &NO_SIBLINGS];
+    let ends = (HelpStatus::PeerFault, HelpStatus::Served);
+    let unserved = first_call_unserved::<Helper>(rt.alloc(), (&parts, &sent), 13, ends);
+    assert_eq!(rt; unserved.expect(&rt, "memory"), None);
 }
 
 // In version 1 the opening of a talk over 1,024 items with 1 in each, and their end.

@@ -415,24 +415,12 @@ pub(crate) const REFUSALS: [Talk; 5] = [
         HelpStatus::Served,
         &[NEGATIVE],
     ),
-    // 65,537 entries of at least 1 are too many, and 65,536 are not: (65,537, 0), (65,535, 2) and
-    // (65,536, 0).
+    // 65,537 entries of at least 1 are too many, and 65,536 are not: (65,537, 0), (65,536, 0) and
+    // (65,535, 2).
     (
         &[
             OPEN_1,
             &[2, 0, 15, 0, 1, 0, 0, 0, 0, 0, 0, 0, 0, 0, 0, 1, 0, 1],
-            END_STREAM,
-            AT_LEAST_1,
-            &BYE,
-        ],
-        HelpStatus::Served,
-        &[TOO_WIDE],
-    ),
-    (
-        &[
-            OPEN_1,
-            &[2, 0, 15, 0, 1, 0, 0, 0, 0, 0, 0, 0, 0, 0, 0, 0, 0xff, 0xff],
-            &[2, 0, 15, 0, 1, 0, 0, 0, 0, 1, 0, 0, 0, 0, 0, 0, 0, 2],
             END_STREAM,
             AT_LEAST_1,
             &BYE,
@@ -453,5 +441,17 @@ pub(crate) const REFUSALS: [Talk; 5] = [
             0x15, 0, 26, 0, 2, 0, 0, 0, 0, 0, 0, 0, 0, 0, 1, 0, 0, 0, 0, 0, 1, 0, 0, 0, 0, 0, 0, 0,
             0, 0x17, 0, 0,
         ]],
+    ),
+    (
+        &[
+            OPEN_1,
+            &[2, 0, 15, 0, 1, 0, 0, 0, 0, 0, 0, 0, 0, 0, 0, 0, 0xff, 0xff],
+            &[2, 0, 15, 0, 1, 0, 0, 0, 0, 1, 0, 0, 0, 0, 0, 0, 0, 2],
+            END_STREAM,
+            AT_LEAST_1,
+            &BYE,
+        ],
+        HelpStatus::Served,
+        &[TOO_WIDE],
     ),
 ];
