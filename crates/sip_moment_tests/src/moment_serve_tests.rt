@@ -2,7 +2,7 @@
 use crate::facts::expect;
 use crate::moment_runs::one;
 use sip_check_tests::events::sent_in;
-use sip_check_tests::serving::{Server, first_unserved, is_served, served};
+use sip_check_tests::serving::{Server, first_call_unserved, first_unserved, is_served, served};
 use sip_helper::HelpStatus;
 use sip_moments::{moment_stream, serve_moments};
 use sip_ports::{MemoryLink, MemorySink, MemorySource};
@@ -251,21 +251,11 @@ fn the_17th_moment_is_out_of_turn(rt: HostRuntime) {
 // all.
 #[test]
 fn a_link_of_moments_fails_at_each_call(rt: HostRuntime) {
-    let alloc = rt.alloc();
     let parts: [&[u8]; 4] = [&STREAM, &ASK, &REVEALED, &END];
-    let talk = parts.concat(alloc).expect(&rt, "memory");
-    let parts: [&[u8]; 3] = [&CLAIM, &FIRST, &SECOND];
-    let replies = parts.concat(alloc).expect(&rt, "memory");
-    for call in 1..15 {
-        let (status, sent) = served::<Helper>(alloc, &talk, 10_000, &[call]).expect(&rt, "memory");
-        let want = if call < 14 {
-            HelpStatus::PeerFault
-        } else {
-            HelpStatus::Served
-        };
-        let facts = [status == want, replies.starts_with(sent.as_slice())];
-        expect(&rt, call as usize, &facts);
-    }
+    let sent: [&[u8]; 3] = [&CLAIM, &FIRST, &SECOND];
+    let ends = (HelpStatus::PeerFault, HelpStatus::Served);
+    let unserved = first_call_unserved::<Helper>(rt.alloc(), (&parts, &sent), 13, ends);
+    assert_eq!(rt; unserved.expect(&rt, "memory"), None);
 }
 
 // The first challenge of 32 zero bytes.

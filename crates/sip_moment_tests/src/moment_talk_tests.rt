@@ -1,6 +1,6 @@
 // The talk of one moment, over replies that were worked out apart from the program.
 use crate::facts::expect;
-use sip_check_tests::events::events;
+use sip_check_tests::events::{happened, ports_of};
 use sip_field::{Field, M61, Seat};
 use sip_moments::{Moment, MomentAsking};
 use sip_ports::{MemoryLink, MemorySink};
@@ -129,8 +129,7 @@ fn asked_of(
 ) -> Result<(Result<Said, AskStop>, MemoryLink, MemorySink), Fail> {
     let seat = Seat::of(&[M61::of(2), M61::of(10)]).unwrap();
     let mut check = MomentAsking::start(3, &seat, M61::of_signed(-3));
-    let mut link = MemoryLink::new(alloc, incoming.to_vec(alloc)?, 7, Vec::new(alloc));
-    let mut keep = MemorySink::new(alloc, 5, Vec::new(alloc));
+    let (mut link, mut keep) = ports_of(alloc, incoming)?;
     let mut frame = Frame::new(alloc)?;
     let said = ask(
         &mut check,
@@ -150,12 +149,8 @@ fn asked_of(
 fn check_row(rt: &impl Abort, alloc: Global, number: usize, row: &Row) -> Result<(), Fail> {
     let incoming = row.incoming.concat(alloc).expect(rt, "memory");
     let (said, link, keep) = asked_of(alloc, &incoming)?;
-    let facts = [
-        said == row.said,
-        link.talk() == events(alloc, row.talk).expect(rt, "memory").as_slice(),
-        keep.bytes() == row.kept.concat(alloc).expect(rt, "memory").as_slice(),
-    ];
-    expect(rt, number, &facts);
+    let [talk, kept] = happened(alloc, (&link, row.talk), (&keep, row.kept)).expect(rt, "memory");
+    expect(rt, number, &[said == row.said, talk, kept]);
     Ok(())
 }
 
