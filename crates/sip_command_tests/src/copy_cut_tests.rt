@@ -1,7 +1,7 @@
 // The commands that copy a stream, over ports that fail.
 
 use crate::copy_tests::THREE_LINES;
-use crate::cut::{Calls, Cut, check_cuts};
+use crate::cut::{Calls, Copied, Cut, check_copied, check_cuts};
 use crate::frames::{THREE_RECORDS, ZERO_SEED};
 use crate::row::{At, Row, RunInput};
 use sip_verifier::Status;
@@ -48,246 +48,66 @@ const RECORDS: Row<'static> = Row {
 // Where the stream fails, all that the calls before it gave whole is written. A record is 13 bytes,
 // and each line is 6. In single bytes these are as many calls; a record that may be asked for at
 // once is one call, and a line is read byte by byte all the same.
-const LINES_BY_THE_BYTE: &[Calls<'static>] = &[
-    Calls {
+const COPIED: &[Copied<'static>] = &[
+    Copied {
         name: "the stream of lines s by the byte",
-        at: At::First,
-        from: 1,
-        to: 13,
-        said: (0, 0),
-        written: (0, 0),
+        row: LINES,
+        by_the_byte: true,
+        calls: &[(1, 13, 0), (14, 26, 6), (27, 39, 12), (40, 40, 18)],
     },
-    Calls {
-        name: "the stream of lines s by the byte",
-        at: At::First,
-        from: 14,
-        to: 26,
-        said: (0, 0),
-        written: (6, 6),
+    Copied {
+        name: "the stream of lines s at once",
+        row: LINES,
+        by_the_byte: false,
+        calls: &[(1, 1, 0), (2, 2, 6), (3, 3, 12), (4, 4, 18)],
     },
-    Calls {
-        name: "the stream of lines s by the byte",
-        at: At::First,
-        from: 27,
-        to: 39,
-        said: (0, 0),
-        written: (12, 12),
+    Copied {
+        name: "the stream of lines text:s",
+        row: TEXT,
+        by_the_byte: true,
+        calls: TEXT_CALLS,
     },
-    Calls {
-        name: "the stream of lines s by the byte",
-        at: At::First,
-        from: 40,
-        to: 40,
-        said: (0, 0),
-        written: (18, 18),
+    Copied {
+        name: "the stream of lines text:s",
+        row: TEXT,
+        by_the_byte: false,
+        calls: TEXT_CALLS,
+    },
+    Copied {
+        name: "the stream of gen by the byte",
+        row: RECORDS,
+        by_the_byte: true,
+        calls: &[(1, 13, 0), (14, 26, 13), (27, 39, 26), (40, 40, 39)],
+    },
+    Copied {
+        name: "the stream of gen at once",
+        row: RECORDS,
+        by_the_byte: false,
+        calls: &[(1, 1, 0), (2, 2, 13), (3, 3, 26), (4, 4, 39)],
     },
 ];
 
-const LINES_AT_ONCE: &[Calls<'static>] = &[
-    Calls {
-        name: "the stream of lines s at once",
-        at: At::First,
-        from: 1,
-        to: 1,
-        said: (0, 0),
-        written: (0, 0),
-    },
-    Calls {
-        name: "the stream of lines s at once",
-        at: At::First,
-        from: 2,
-        to: 2,
-        said: (0, 0),
-        written: (6, 6),
-    },
-    Calls {
-        name: "the stream of lines s at once",
-        at: At::First,
-        from: 3,
-        to: 3,
-        said: (0, 0),
-        written: (12, 12),
-    },
-    Calls {
-        name: "the stream of lines s at once",
-        at: At::First,
-        from: 4,
-        to: 4,
-        said: (0, 0),
-        written: (18, 18),
-    },
-];
-
-const TEXT_BY_THE_BYTE: &[Calls<'static>] = &[
-    Calls {
-        name: "the stream of lines text:s",
-        at: At::First,
-        from: 1,
-        to: 6,
-        said: (0, 0),
-        written: (0, 0),
-    },
-    Calls {
-        name: "the stream of lines text:s",
-        at: At::First,
-        from: 7,
-        to: 12,
-        said: (0, 0),
-        written: (6, 6),
-    },
-    Calls {
-        name: "the stream of lines text:s",
-        at: At::First,
-        from: 13,
-        to: 18,
-        said: (0, 0),
-        written: (12, 12),
-    },
-    Calls {
-        name: "the stream of lines text:s",
-        at: At::First,
-        from: 19,
-        to: 19,
-        said: (0, 0),
-        written: (18, 18),
-    },
-];
-
-const RECORDS_BY_THE_BYTE: &[Calls<'static>] = &[
-    Calls {
-        name: "the stream of gen by the byte",
-        at: At::First,
-        from: 1,
-        to: 13,
-        said: (0, 0),
-        written: (0, 0),
-    },
-    Calls {
-        name: "the stream of gen by the byte",
-        at: At::First,
-        from: 14,
-        to: 26,
-        said: (0, 0),
-        written: (13, 13),
-    },
-    Calls {
-        name: "the stream of gen by the byte",
-        at: At::First,
-        from: 27,
-        to: 39,
-        said: (0, 0),
-        written: (26, 26),
-    },
-    Calls {
-        name: "the stream of gen by the byte",
-        at: At::First,
-        from: 40,
-        to: 40,
-        said: (0, 0),
-        written: (39, 39),
-    },
-];
-
-const RECORDS_AT_ONCE: &[Calls<'static>] = &[
-    Calls {
-        name: "the stream of gen at once",
-        at: At::First,
-        from: 1,
-        to: 1,
-        said: (0, 0),
-        written: (0, 0),
-    },
-    Calls {
-        name: "the stream of gen at once",
-        at: At::First,
-        from: 2,
-        to: 2,
-        said: (0, 0),
-        written: (13, 13),
-    },
-    Calls {
-        name: "the stream of gen at once",
-        at: At::First,
-        from: 3,
-        to: 3,
-        said: (0, 0),
-        written: (26, 26),
-    },
-    Calls {
-        name: "the stream of gen at once",
-        at: At::First,
-        from: 4,
-        to: 4,
-        said: (0, 0),
-        written: (39, 39),
-    },
-];
+const TEXT_CALLS: &[(u64, u64, usize)] = &[(1, 6, 0), (7, 12, 6), (13, 18, 12), (19, 19, 18)];
 
 // Each call of the report fails once: the bytes before it are written.
-const REPORT: &[Calls<'static>] = &[Calls {
-    name: "the report of lines s",
-    at: At::Report,
-    from: 1,
-    to: 18,
-    said: (0, 0),
-    written: (0, 17),
-}];
-
-const COPIED: Cut<'static> = Cut {
+const REPORT: &[Cut<'static>] = &[Cut {
     row: LINES,
     by_the_byte: true,
-    calls: &[],
+    calls: &[Calls {
+        name: "the report of lines s",
+        at: At::Report,
+        from: 1,
+        to: 18,
+        said: (0, 0),
+        written: (0, 17),
+    }],
     not_made: &[],
     quiet: 0,
     whole_lines: false,
-};
-
-const CUTS: &[Cut<'static>] = &[
-    Cut {
-        row: LINES,
-        by_the_byte: true,
-        calls: LINES_BY_THE_BYTE,
-        ..COPIED
-    },
-    Cut {
-        row: LINES,
-        by_the_byte: false,
-        calls: LINES_AT_ONCE,
-        ..COPIED
-    },
-    Cut {
-        row: TEXT,
-        by_the_byte: true,
-        calls: TEXT_BY_THE_BYTE,
-        ..COPIED
-    },
-    Cut {
-        row: TEXT,
-        by_the_byte: false,
-        calls: TEXT_BY_THE_BYTE,
-        ..COPIED
-    },
-    Cut {
-        row: RECORDS,
-        by_the_byte: true,
-        calls: RECORDS_BY_THE_BYTE,
-        ..COPIED
-    },
-    Cut {
-        row: RECORDS,
-        by_the_byte: false,
-        calls: RECORDS_AT_ONCE,
-        ..COPIED
-    },
-    Cut {
-        row: LINES,
-        by_the_byte: true,
-        calls: REPORT,
-        ..COPIED
-    },
-];
+}];
 
 #[test]
 fn copies_over_ports_that_fail(rt: HostRuntime) -> Result<(), Fail> {
-    check_cuts(&rt, rt.alloc(), CUTS)
+    check_copied(&rt, rt.alloc(), COPIED)?;
+    check_cuts(&rt, rt.alloc(), REPORT)
 }

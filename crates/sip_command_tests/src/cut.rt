@@ -22,6 +22,26 @@ pub struct Calls<'a> {
     pub written: (usize, usize),
 }
 
+// The stream of the three records fails: three records and their end.
+pub const STREAM_AT_ONCE: Calls<'static> = Calls {
+    name: "the stream at once",
+    at: At::First,
+    from: 1,
+    to: 4,
+    said: (5, 5),
+    written: (0, 0),
+};
+
+// The seed fails.
+pub const SEED_AT_ONCE: Calls<'static> = Calls {
+    name: "the seed at once",
+    at: At::Second,
+    from: 1,
+    to: 1,
+    said: (0, 0),
+    written: (0, 0),
+};
+
 // A run whose ports move a byte a call, or as many as are asked for: the calls that fail, and some
 // that the run does not make. Nothing is written while fewer events than `quiet` were said; and
 // what is written is whole lines, where they are asked for.
@@ -123,6 +143,40 @@ impl Cut<'_> {
         }
         Ok(())
     }
+}
+
+// A command that copies a stream and says nothing: calls of the stream by the first and the last of
+// their numbers, each of which fails once, and how many bytes are written by then.
+#[derive(Clone, Copy)]
+pub struct Copied<'a> {
+    pub name: &'a str,
+    pub row: Row<'a>,
+    pub by_the_byte: bool,
+    pub calls: &'a [(u64, u64, usize)],
+}
+
+pub fn check_copied(rt: &impl Abort, alloc: Global, copies: &[Copied]) -> Result<(), Fail> {
+    for copied in copies {
+        for &(from, to, count) in copied.calls {
+            let cut = Cut {
+                row: copied.row,
+                by_the_byte: copied.by_the_byte,
+                calls: &[Calls {
+                    name: copied.name,
+                    at: At::First,
+                    from,
+                    to,
+                    said: (0, 0),
+                    written: (count, count),
+                }],
+                not_made: &[],
+                quiet: 0,
+                whole_lines: false,
+            };
+            cut.check(rt, alloc)?;
+        }
+    }
+    Ok(())
 }
 
 pub fn check_cuts(rt: &impl Abort, alloc: Global, cuts: &[Cut]) -> Result<(), Fail> {

@@ -1,10 +1,7 @@
 // The first run, and one that is rejected, where each call of each port fails once.
 
-use crate::cut::{Calls, Cut, check_cuts};
-use crate::frames::*;
-use crate::row::{At, FIRST_GIVEN, FIRST_RUN, Row, RunInput, Said};
-use sip_verifier::Status;
-use sip_wire::Reason;
+use crate::cut::{Calls, Cut, SEED_AT_ONCE, STREAM_AT_ONCE, check_cuts};
+use crate::row::{At, FIRST_RUN, REJECTED_RUN};
 use std::test::Fail;
 
 // The stream has 39 bytes and an end, the seed 32, the talk 119, the line 12 and the transcript 76,
@@ -65,22 +62,8 @@ const BY_THE_BYTE: &[Calls<'static>] = &[
 // frames out, and 3 frames in of a header and a body each; the transcript is written in 2 parts of
 // its head and 3 frames.
 const AT_ONCE: &[Calls<'static>] = &[
-    Calls {
-        name: "the stream at once",
-        at: At::First,
-        from: 1,
-        to: 4,
-        said: (5, 5),
-        written: (0, 0),
-    },
-    Calls {
-        name: "the seed at once",
-        at: At::Second,
-        from: 1,
-        to: 1,
-        said: (0, 0),
-        written: (0, 0),
-    },
+    STREAM_AT_ONCE,
+    SEED_AT_ONCE,
     Calls {
         name: "the link at once",
         at: At::Peer,
@@ -106,29 +89,6 @@ const AT_ONCE: &[Calls<'static>] = &[
         written: (0, 12),
     },
 ];
-
-// The root tells that leaf 0 is not 4.
-const REJECTED: Row<'static> = Row {
-    name: "a rejection",
-    given: RunInput {
-        replies: &[&ENTRY_2, &SIBLINGS_4_1, &NO_SIBLINGS],
-        ..FIRST_GIVEN
-    },
-    status: Status::Rejected {
-        query: 1,
-        round: 2,
-        reason: Reason::Root,
-    },
-    code: 1,
-    report: b"rejected query 1 round 2 Root\n",
-    then: &[
-        Said::In(&ENTRY_2),
-        Said::In(&SIBLINGS_4_1),
-        Said::Out(&REVEAL),
-        Said::In(&NO_SIBLINGS),
-    ],
-    ..FIRST_RUN
-};
 
 // Its line is cut short at each byte: the talk is that of the rejection.
 const ITS_LINE: &[Calls<'static>] = &[Calls {
@@ -171,7 +131,7 @@ const CUTS: &[Cut<'static>] = &[
         whole_lines: true,
     },
     Cut {
-        row: REJECTED,
+        row: REJECTED_RUN,
         by_the_byte: true,
         calls: ITS_LINE,
         not_made: &[(At::Report, 31)],

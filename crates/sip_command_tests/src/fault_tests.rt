@@ -1,6 +1,6 @@
 // Runs of `verify` that ask for the entries 1 to 2 of (3, 0, 5, 1), with scripted replies.
 
-use crate::faulty::{Behind, Faulty, NOTHING_OF_REPLY_1, check_faulty};
+use crate::faulty::{Behind, Faulty, NOTHING_OF_REPLY_0, NOTHING_OF_REPLY_1, check_faulty};
 use crate::frames::*;
 use crate::row::{FIRST_GIVEN, FIRST_RUN, Row, RunInput, Said};
 use sip_wire::Reason;
@@ -21,11 +21,7 @@ const ASKED: Row<'static> = Row {
 const FRAMES: &[Faulty<'static>] = &[
     Faulty {
         name: "nothing comes",
-        replies: &[],
-        then: &[Said::Ended],
-        round: 0,
-        reason: Reason::Closed,
-        line: b"rejected query 1 round 0 Closed\n",
+        ..NOTHING_OF_REPLY_0
     },
     Faulty {
         name: "a part of a header comes",

@@ -1,5 +1,6 @@
 // Replies with a fault, behind what an honest helper said.
 
+use crate::frames::REFUSE_1;
 use crate::row::{Row, RunInput, Said, bytes_of};
 use sip_verifier::Status;
 use sip_wire::Reason;
@@ -18,6 +19,26 @@ pub struct Faulty<'a> {
     pub reason: Reason,
     pub line: &'a [u8],
 }
+
+// The link ends where reply 0 of query 1 is due.
+pub const NOTHING_OF_REPLY_0: Faulty<'static> = Faulty {
+    name: "nothing of reply 0 comes",
+    replies: &[],
+    then: &[Said::Ended],
+    round: 0,
+    reason: Reason::Closed,
+    line: b"rejected query 1 round 0 Closed\n",
+};
+
+// The helper refuses query 1.
+pub const NO_MEMORY: Faulty<'static> = Faulty {
+    name: "the helper has no memory",
+    replies: &[&REFUSE_1],
+    then: &[Said::In(&REFUSE_1)],
+    round: 0,
+    reason: Reason::Refused(1),
+    line: b"rejected query 1 round 0 Refused(1)\n",
+};
 
 // The link ends where reply 1 of query 1 is due.
 pub const NOTHING_OF_REPLY_1: Faulty<'static> = Faulty {
@@ -74,4 +95,27 @@ pub fn check_faulty(rt: &impl Abort, alloc: Global, tables: &[Behind]) -> Result
         }
     }
     Ok(())
+}
+
+// Runs those of query 1, each where a run like this one has heard nothing yet.
+pub fn check_first(rt: &impl Abort, alloc: Global, run: &Row, rows: &[Faulty]) -> Result<(), Fail> {
+    let before = Row {
+        given: RunInput {
+            replies: &[],
+            ..run.given
+        },
+        report: b"",
+        then: &[],
+        ..*run
+    };
+    let query = 1;
+    check_faulty(
+        rt,
+        alloc,
+        &[Behind {
+            before,
+            query,
+            rows,
+        }],
+    )
 }

@@ -1,7 +1,7 @@
 // Runs of `verify` that ask for the heavy hitters of (3, 0, 5, 1), with scripted replies.
 
 use crate::checks::check_rows;
-use crate::faulty::{Behind, Faulty, check_faulty};
+use crate::faulty::{Behind, Faulty, NOTHING_OF_REPLY_0, check_faulty};
 use crate::frames::*;
 use crate::heavy_frames::*;
 use crate::row::{FIRST_GIVEN, FIRST_RUN, Row, RunInput, Said};
@@ -108,14 +108,7 @@ const LEAVES: &[Faulty<'static>] = &[
         reason: Reason::BadNumber,
         line: b"rejected query 1 round 0 BadNumber\n",
     },
-    Faulty {
-        name: "nothing of reply 0 comes",
-        replies: &[],
-        then: &[Said::Ended],
-        round: 0,
-        reason: Reason::Closed,
-        line: b"rejected query 1 round 0 Closed\n",
-    },
+    NOTHING_OF_REPLY_0,
 ];
 
 // At least 9 is one entry at most, so that two leaves are shown at most.

@@ -7,25 +7,28 @@ use crate::sum_frames::*;
 use sip_verifier::Status;
 use std::test::Fail;
 
-// A talk that is served, and how talks end otherwise.
-const TALKS: &[Row<'static>] = &[
-    Row {
-        name: "a whole talk",
-        given: RunInput {
-            replies: &[&STREAM_OF_THREE, &SUB_1_2, &REVEAL_OF_2, &BYE],
-            ..HELPING
-        },
-        then: &[
-            Said::In(&STREAM_OF_THREE),
-            Said::In(&SUB_1_2),
-            Said::Out(&ENTRY_2),
-            Said::Out(&SIBLINGS_3_1),
-            Said::In(&REVEAL_OF_2),
-            Said::Out(&NO_SIBLINGS),
-            Said::In(&BYE),
-        ],
-        ..SERVED
+// A talk that is served.
+const WHOLE: Row<'static> = Row {
+    name: "a whole talk",
+    given: RunInput {
+        replies: &[&STREAM_OF_THREE, &SUB_1_2, &REVEAL_OF_2, &BYE],
+        ..HELPING
     },
+    then: &[
+        Said::In(&STREAM_OF_THREE),
+        Said::In(&SUB_1_2),
+        Said::Out(&ENTRY_2),
+        Said::Out(&SIBLINGS_3_1),
+        Said::In(&REVEAL_OF_2),
+        Said::Out(&NO_SIBLINGS),
+        Said::In(&BYE),
+    ],
+    ..SERVED
+};
+
+// That talk, and how talks end otherwise.
+const TALKS: &[Row<'static>] = &[
+    WHOLE,
     Row {
         name: "the verifier leaves after the stream",
         given: RunInput {
@@ -82,7 +85,7 @@ const TWO_VERSIONS: &[Row<'static>] = &[
             Said::Out(&NO_SIBLINGS),
             Said::In(&BYE),
         ],
-        ..SERVED
+        ..WHOLE
     },
     Row {
         name: "depth 33 is none of version 1",
@@ -139,69 +142,65 @@ const TWO_VERSIONS: &[Row<'static>] = &[
 ];
 
 // The sums of side 0, which is 3, 0, 5, 1, of its products with side 1, which is 2, 7, 1, 0, and of
-// its entries 1 to 3. A query that comes too early, or asks for an item that is none, is out of
-// turn.
-const SUMS: &[Row<'static>] = &[
-    Row {
-        name: "three sums",
-        given: RunInput {
-            replies: &[
-                &OPEN_2,
-                &UPDATES_OF_SIX,
-                &THREE_RECORDS,
-                &THREE_OF_SIDE_1,
-                &END_STREAM,
-                &F2,
-                &REVEAL_OF_2,
-                &INNER,
-                &REVEAL_OF_2,
-                &RANGE_1_3,
-                &REVEAL_OF_2,
-                &BYE,
-            ],
-            ..HELPING
-        },
-        then: &[
-            Said::In(&OPEN_2),
-            Said::In(&UPDATES_OF_SIX),
-            Said::In(&THREE_RECORDS),
-            Said::In(&THREE_OF_SIDE_1),
-            Said::In(&END_STREAM),
-            Said::In(&F2),
-            Said::Out(&CLAIM_35),
-            Said::Out(&SQUARES_1),
-            Said::In(&REVEAL_OF_2),
-            Said::Out(&SQUARES_2),
-            Said::In(&INNER),
-            Said::Out(&CLAIM_11),
-            Said::Out(&PRODUCTS_1),
-            Said::In(&REVEAL_OF_2),
-            Said::Out(&PRODUCTS_2),
-            Said::In(&RANGE_1_3),
-            Said::Out(&CLAIM_6),
-            Said::Out(&ENTRIES_1),
-            Said::In(&REVEAL_OF_2),
-            Said::Out(&ENTRIES_2),
-            Said::In(&BYE),
+// its entries 1 to 3.
+const THREE_SUMS: Row<'static> = Row {
+    name: "three sums",
+    given: RunInput {
+        replies: &[
+            &OPEN_2,
+            &UPDATES_OF_SIX,
+            &THREE_RECORDS,
+            &THREE_OF_SIDE_1,
+            &END_STREAM,
+            &F2,
+            &REVEAL_OF_2,
+            &INNER,
+            &REVEAL_OF_2,
+            &RANGE_1_3,
+            &REVEAL_OF_2,
+            &BYE,
         ],
-        ..SERVED
+        ..HELPING
     },
+    sent: &[
+        Said::In(&OPEN_2),
+        Said::In(&UPDATES_OF_SIX),
+        Said::In(&THREE_RECORDS),
+        Said::In(&THREE_OF_SIDE_1),
+        Said::In(&END_STREAM),
+        Said::In(&F2),
+        Said::Out(&CLAIM_35),
+        Said::Out(&SQUARES_1),
+        Said::In(&REVEAL_OF_2),
+        Said::Out(&SQUARES_2),
+        Said::In(&INNER),
+        Said::Out(&CLAIM_11),
+        Said::Out(&PRODUCTS_1),
+        Said::In(&REVEAL_OF_2),
+        Said::Out(&PRODUCTS_2),
+        Said::In(&RANGE_1_3),
+    ],
+    then: &[
+        Said::Out(&CLAIM_6),
+        Said::Out(&ENTRIES_1),
+        Said::In(&REVEAL_OF_2),
+        Said::Out(&ENTRIES_2),
+        Said::In(&BYE),
+    ],
+    ..SERVED
+};
+
+// A query that comes too early, or asks for an item that is none, is out of turn.
+const SUMS: &[Row<'static>] = &[
+    THREE_SUMS,
     Row {
         name: "a sum in version 2",
         given: RunInput {
             replies: &[&STREAM_OF_THREE_WIDE, &RANGE_1_3_WIDE, &REVEAL_OF_2, &BYE],
             ..HELPING
         },
-        then: &[
-            Said::In(&STREAM_OF_THREE_WIDE),
-            Said::In(&RANGE_1_3_WIDE),
-            Said::Out(&CLAIM_6),
-            Said::Out(&ENTRIES_1),
-            Said::In(&REVEAL_OF_2),
-            Said::Out(&ENTRIES_2),
-            Said::In(&BYE),
-        ],
-        ..SERVED
+        sent: &[Said::In(&STREAM_OF_THREE_WIDE), Said::In(&RANGE_1_3_WIDE)],
+        ..THREE_SUMS
     },
     Row {
         name: "a sum before the stream has ended",

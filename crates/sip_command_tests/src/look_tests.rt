@@ -2,9 +2,10 @@
 // out.
 
 use crate::checks::check_rows;
+use crate::faulty::{Faulty, NO_MEMORY, check_first};
 use crate::frames::*;
 use crate::question_frames::*;
-use crate::row::{self, LEFT, OUT_OF_TURN, Row, RunInput, Said};
+use crate::row::{self, LEFT, OUT_OF_TURN, Row, RunInput, SERVED, Said};
 use sip_verifier::Status;
 use sip_wire::Reason;
 use std::test::Fail;
@@ -120,60 +121,36 @@ const ACCEPTED: &[Row<'static>] = &[
     },
 ];
 
+const NOT_ALONE: Faulty<'static> = Faulty {
+    name: "another entry is nearer",
+    replies: &[&FOUND_3, &ENTRIES_2_3, &LEFT_SIBLING_3, &NO_SIBLINGS],
+    then: &[
+        Said::In(&FOUND_3),
+        Said::Out(&SUB_1_3),
+        Said::In(&ENTRIES_2_3),
+        Said::In(&LEFT_SIBLING_3),
+        Said::Out(&REVEAL),
+        Said::In(&NO_SIBLINGS),
+    ],
+    round: 2,
+    reason: Reason::NotAlone,
+    line: b"rejected query 1 round 2 NotAlone\n",
+};
+
 // Nothing is said behind a place that can't be, and nothing behind the reply whose fault shows.
-const REJECTED: &[Row<'static>] = &[
-    Row {
+const REPLIES: &[Faulty<'static>] = &[
+    Faulty {
         name: "a place below the item",
-        given: RunInput {
-            replies: &[&FOUND_0],
-            ..GIVEN
-        },
-        status: Status::Rejected {
-            query: 1,
-            round: 0,
-            reason: Reason::BadFound,
-        },
-        code: 1,
-        report: b"rejected query 1 round 0 BadFound\n",
+        replies: &[&FOUND_0],
         then: &[Said::In(&FOUND_0)],
-        ..SUCCESSOR
+        round: 0,
+        reason: Reason::BadFound,
+        line: b"rejected query 1 round 0 BadFound\n",
     },
-    Row {
-        name: "another entry is nearer",
-        given: RunInput {
-            replies: &[&FOUND_3, &ENTRIES_2_3, &LEFT_SIBLING_3, &NO_SIBLINGS],
-            ..GIVEN
-        },
-        status: Status::Rejected {
-            query: 1,
-            round: 2,
-            reason: Reason::NotAlone,
-        },
-        code: 1,
-        report: b"rejected query 1 round 2 NotAlone\n",
-        then: &[
-            Said::In(&FOUND_3),
-            Said::Out(&SUB_1_3),
-            Said::In(&ENTRIES_2_3),
-            Said::In(&LEFT_SIBLING_3),
-            Said::Out(&REVEAL),
-            Said::In(&NO_SIBLINGS),
-        ],
-        ..SUCCESSOR
-    },
-    Row {
+    NOT_ALONE,
+    Faulty {
         name: "an entry from 1 on, and none was found",
-        given: RunInput {
-            replies: &[&FOUND_NONE, &ENTRIES_2_3, &LEFT_SIBLING_3, &NO_SIBLINGS],
-            ..GIVEN
-        },
-        status: Status::Rejected {
-            query: 1,
-            round: 2,
-            reason: Reason::NotAlone,
-        },
-        code: 1,
-        report: b"rejected query 1 round 2 NotAlone\n",
+        replies: &[&FOUND_NONE, &ENTRIES_2_3, &LEFT_SIBLING_3, &NO_SIBLINGS],
         then: &[
             Said::In(&FOUND_NONE),
             Said::Out(&SUB_1_3),
@@ -182,55 +159,24 @@ const REJECTED: &[Row<'static>] = &[
             Said::Out(&REVEAL),
             Said::In(&NO_SIBLINGS),
         ],
-        ..SUCCESSOR
+        ..NOT_ALONE
     },
-    Row {
+    Faulty {
         name: "none was found, and yet there is an index",
-        given: RunInput {
-            replies: &[&FOUND_NONE_AT_1],
-            ..GIVEN
-        },
-        status: Status::Rejected {
-            query: 1,
-            round: 0,
-            reason: Reason::BadNumber,
-        },
-        code: 1,
-        report: b"rejected query 1 round 0 BadNumber\n",
+        replies: &[&FOUND_NONE_AT_1],
         then: &[Said::In(&FOUND_NONE_AT_1)],
-        ..SUCCESSOR
+        round: 0,
+        reason: Reason::BadNumber,
+        line: b"rejected query 1 round 0 BadNumber\n",
     },
-    Row {
-        name: "the helper has no memory",
-        given: RunInput {
-            replies: &[&REFUSE_1],
-            ..GIVEN
-        },
-        status: Status::Rejected {
-            query: 1,
-            round: 0,
-            reason: Reason::Refused(1),
-        },
-        code: 1,
-        report: b"rejected query 1 round 0 Refused(1)\n",
-        then: &[Said::In(&REFUSE_1)],
-        ..SUCCESSOR
-    },
-    Row {
+    NO_MEMORY,
+    Faulty {
         name: "the helper leaves",
-        given: RunInput {
-            replies: &[&FOUND_2],
-            ..GIVEN
-        },
-        status: Status::Rejected {
-            query: 1,
-            round: 0,
-            reason: Reason::Closed,
-        },
-        code: 1,
-        report: b"rejected query 1 round 0 Closed\n",
+        replies: &[&FOUND_2],
         then: &[Said::In(&FOUND_2), Said::Out(&SUB_1_2), Said::Ended],
-        ..SUCCESSOR
+        round: 0,
+        reason: Reason::Closed,
+        line: b"rejected query 1 round 0 Closed\n",
     },
 ];
 
@@ -239,31 +185,30 @@ const HELPING: RunInput<'static> = RunInput {
     ..row::HELPING
 };
 
-const SERVED: Row<'static> = Row {
-    given: HELPING,
-    ..row::SERVED
+const SUCCESSOR_SERVED: Row<'static> = Row {
+    name: "a whole talk",
+    given: RunInput {
+        replies: &[&STREAM_OF_THREE, &ASK_SUCC_1, &SUB_1_2, &REVEAL_OF_2, &END],
+        ..HELPING
+    },
+    sent: &[
+        Said::In(&STREAM_OF_THREE),
+        Said::In(&ASK_SUCC_1),
+        Said::Out(&FOUND_2),
+        Said::In(&SUB_1_2),
+        Said::Out(&ENTRY_2),
+    ],
+    then: &[
+        Said::Out(&SIBLINGS_3_1),
+        Said::In(&REVEAL_OF_2),
+        Said::Out(&NO_SIBLINGS),
+        Said::In(&END),
+    ],
+    ..SERVED
 };
 
 const TALKS: &[Row<'static>] = &[
-    Row {
-        name: "a whole talk",
-        given: RunInput {
-            replies: &[&STREAM_OF_THREE, &ASK_SUCC_1, &SUB_1_2, &REVEAL_OF_2, &END],
-            ..HELPING
-        },
-        then: &[
-            Said::In(&STREAM_OF_THREE),
-            Said::In(&ASK_SUCC_1),
-            Said::Out(&FOUND_2),
-            Said::In(&SUB_1_2),
-            Said::Out(&ENTRY_2),
-            Said::Out(&SIBLINGS_3_1),
-            Said::In(&REVEAL_OF_2),
-            Said::Out(&NO_SIBLINGS),
-            Said::In(&END),
-        ],
-        ..SERVED
-    },
+    SUCCESSOR_SERVED,
     Row {
         name: "a whole talk in version 2",
         given: RunInput {
@@ -276,18 +221,14 @@ const TALKS: &[Row<'static>] = &[
             ],
             ..HELPING
         },
-        then: &[
+        sent: &[
             Said::In(&STREAM_OF_THREE_WIDE),
             Said::In(&ASK_SUCC_1),
             Said::Out(&FOUND_2),
             Said::In(&SUB_1_2_WIDE),
             Said::Out(&ENTRY_2_WIDE),
-            Said::Out(&SIBLINGS_3_1),
-            Said::In(&REVEAL_OF_2),
-            Said::Out(&NO_SIBLINGS),
-            Said::In(&END),
         ],
-        ..SERVED
+        ..SUCCESSOR_SERVED
     },
     Row {
         name: "the verifier leaves where a lookup is due",
@@ -339,6 +280,6 @@ const TALKS: &[Row<'static>] = &[
 #[test]
 fn runs_and_talks_of_lookups(rt: HostRuntime) -> Result<(), Fail> {
     check_rows(&rt, rt.alloc(), ACCEPTED)?;
-    check_rows(&rt, rt.alloc(), REJECTED)?;
+    check_first(&rt, rt.alloc(), &SUCCESSOR, REPLIES)?;
     check_rows(&rt, rt.alloc(), TALKS)
 }

@@ -3,8 +3,8 @@ ghost use Rattle.std.specs.Prelude.{◌≤◌};
 
 use crate::case::Case;
 use crate::copy_tests::copy;
-use crate::cut::{Calls, Cut};
-use crate::row::{At, words_of};
+use crate::cut::{Copied, check_copied};
+use crate::row::words_of;
 use sip_cli::{Opening, ports, read_words, run};
 use sip_ports::{MemoryLink, MemorySink, MemorySource, NullSink};
 use sip_stream::MadeSource;
@@ -31,15 +31,12 @@ fn run_made(alloc: Global, text: &str, chunk: usize) -> Result<(Status, MemorySi
     else {
         return Ok((Status::Usage { word: 0 }, report));
     };
-    let mut first = MadeSource::new(*number, *count, *depth);
-    let mut second = MemorySource::new(Vec::new(alloc), chunk, Vec::new(alloc));
-    let mut peer = MemoryLink::new(alloc, Vec::new(alloc), chunk, Vec::new(alloc));
     let status = run(
         alloc,
         &words,
-        &mut first,
-        &mut second,
-        &mut peer,
+        &mut MadeSource::new(*number, *count, *depth),
+        &mut MemorySource::new(Vec::new(alloc), chunk, Vec::new(alloc)),
+        &mut MemoryLink::new(alloc, Vec::new(alloc), chunk, Vec::new(alloc)),
         &mut report,
         &mut NullSink::new(),
     );
@@ -127,52 +124,22 @@ fn check_long(
 }
 
 // 630 records are the most below a block of 8,192 bytes.
-const BLOCKS: &[Calls<'static>] = &[
-    Calls {
-        name: "the stream of gen in blocks",
-        at: At::First,
-        from: 1,
-        to: 1,
-        said: (0, 0),
-        written: (0, 0),
-    },
-    Calls {
-        name: "the stream of gen in blocks",
-        at: At::First,
-        from: 631,
-        to: 631,
-        said: (0, 0),
-        written: (8190, 8190),
-    },
-    Calls {
-        name: "the stream of gen in blocks",
-        at: At::First,
-        from: 632,
-        to: 632,
-        said: (0, 0),
-        written: (8203, 8203),
-    },
-    Calls {
-        name: "the stream of gen in blocks",
-        at: At::First,
-        from: 1001,
-        to: 1001,
-        said: (0, 0),
-        written: (13000, 13000),
-    },
+const BLOCKS: &[(u64, u64, usize)] = &[
+    (1, 1, 0),
+    (631, 631, 8190),
+    (632, 632, 8203),
+    (1001, 1001, 13000),
 ];
 
 // What is gathered when the source fails is written.
 fn check_blocks(rt: &impl Abort, alloc: Global, records: &[u8]) -> Result<(), Fail> {
-    let cut = Cut {
+    let copied = Copied {
+        name: "the stream of gen in blocks",
         row: copy("gen 7 1000 20", records, Status::Wrote, 0, records),
         by_the_byte: false,
         calls: BLOCKS,
-        not_made: &[],
-        quiet: 0,
-        whole_lines: false,
     };
-    cut.check(rt, alloc)
+    check_copied(rt, alloc, &[copied])
 }
 
 // Streams of several blocks.

@@ -2,9 +2,10 @@
 // out.
 
 use crate::checks::check_rows;
+use crate::faulty::{Faulty, NO_MEMORY, check_first};
 use crate::frames::*;
 use crate::question_frames::*;
-use crate::row::{self, LEFT, OUT_OF_TURN, Row, RunInput, Said};
+use crate::row::{self, LEFT, OUT_OF_TURN, Row, RunInput, SERVED, Said};
 use sip_verifier::Status;
 use sip_wire::Reason;
 use std::test::Fail;
@@ -100,43 +101,23 @@ const RUNS: &[Row<'static>] = &[
         status: Status::TooHigh { query: 3 },
         ..TOO_HIGH
     },
-    Row {
+];
+
+const REPLIES: &[Faulty<'static>] = &[
+    Faulty {
         name: "the polynomials of another challenge",
-        given: RunInput {
-            replies: &[&CLAIM_153, &CUBES_1, &CUBES_2],
-            ..GIVEN
-        },
-        status: Status::Rejected {
-            query: 1,
-            round: 1,
-            reason: Reason::Sum,
-        },
-        code: 1,
-        report: b"rejected query 1 round 1 Sum\n",
+        replies: &[&CLAIM_153, &CUBES_1, &CUBES_2],
         then: &[
             Said::In(&CLAIM_153),
             Said::In(&CUBES_1),
             Said::Out(&REVEAL),
             Said::In(&CUBES_2),
         ],
-        ..CUBES
+        round: 1,
+        reason: Reason::Sum,
+        line: b"rejected query 1 round 1 Sum\n",
     },
-    Row {
-        name: "the helper has no memory",
-        given: RunInput {
-            replies: &[&REFUSE_1],
-            ..GIVEN
-        },
-        status: Status::Rejected {
-            query: 1,
-            round: 0,
-            reason: Reason::Refused(1),
-        },
-        code: 1,
-        report: b"rejected query 1 round 0 Refused(1)\n",
-        then: &[Said::In(&REFUSE_1)],
-        ..CUBES
-    },
+    NO_MEMORY,
 ];
 
 const HELPING: RunInput<'static> = RunInput {
@@ -144,45 +125,34 @@ const HELPING: RunInput<'static> = RunInput {
     ..row::HELPING
 };
 
-const SERVED: Row<'static> = Row {
-    given: HELPING,
-    ..row::SERVED
+const CUBES_SERVED: Row<'static> = Row {
+    name: "a whole talk",
+    given: RunInput {
+        replies: &[&STREAM_OF_THREE, &ASK_THIRD, &REVEAL_OF_2, &END],
+        ..HELPING
+    },
+    sent: &[Said::In(&STREAM_OF_THREE)],
+    then: &[
+        Said::In(&ASK_THIRD),
+        Said::Out(&CLAIM_153),
+        Said::Out(&CUBES_1),
+        Said::In(&REVEAL_OF_2),
+        Said::Out(&CUBES_2),
+        Said::In(&END),
+    ],
+    ..SERVED
 };
 
 const TALKS: &[Row<'static>] = &[
-    Row {
-        name: "a whole talk",
-        given: RunInput {
-            replies: &[&STREAM_OF_THREE, &ASK_THIRD, &REVEAL_OF_2, &END],
-            ..HELPING
-        },
-        then: &[
-            Said::In(&STREAM_OF_THREE),
-            Said::In(&ASK_THIRD),
-            Said::Out(&CLAIM_153),
-            Said::Out(&CUBES_1),
-            Said::In(&REVEAL_OF_2),
-            Said::Out(&CUBES_2),
-            Said::In(&END),
-        ],
-        ..SERVED
-    },
+    CUBES_SERVED,
     Row {
         name: "a whole talk in version 2",
         given: RunInput {
             replies: &[&STREAM_OF_THREE_WIDE, &ASK_THIRD, &REVEAL_OF_2, &END],
             ..HELPING
         },
-        then: &[
-            Said::In(&STREAM_OF_THREE_WIDE),
-            Said::In(&ASK_THIRD),
-            Said::Out(&CLAIM_153),
-            Said::Out(&CUBES_1),
-            Said::In(&REVEAL_OF_2),
-            Said::Out(&CUBES_2),
-            Said::In(&END),
-        ],
-        ..SERVED
+        sent: &[Said::In(&STREAM_OF_THREE_WIDE)],
+        ..CUBES_SERVED
     },
     Row {
         name: "the verifier leaves where a moment is due",
@@ -239,5 +209,6 @@ const TALKS: &[Row<'static>] = &[
 #[test]
 fn runs_and_talks_of_moments(rt: HostRuntime) -> Result<(), Fail> {
     check_rows(&rt, rt.alloc(), RUNS)?;
+    check_first(&rt, rt.alloc(), &CUBES, REPLIES)?;
     check_rows(&rt, rt.alloc(), TALKS)
 }

@@ -1,10 +1,10 @@
 // Runs of three queries: 1 to 2, 0 to 3, and 1 to 2 again.
 
 use crate::checks::check_rows;
-use crate::cut::{Calls, Cut, check_cuts};
-use crate::faulty::{Behind, Faulty, check_faulty};
+use crate::cut::{Calls, Cut, SEED_AT_ONCE, STREAM_AT_ONCE, check_cuts};
+use crate::faulty::{Behind, Faulty, NOTHING_OF_REPLY_0, check_faulty};
 use crate::frames::*;
-use crate::row::{At, FIRST_GIVEN, FIRST_RUN, Row, RunInput, Said};
+use crate::row::{At, FIRST_RUN, Row, RunInput, Said};
 use sip_wire::Reason;
 use std::test::Fail;
 
@@ -25,17 +25,32 @@ const ASKING: RunInput<'static> = RunInput {
     ],
 };
 
+// The run up to the second query.
+const UP_TO_QUERY_2: Row<'static> = Row {
+    given: RunInput {
+        replies: &[&ENTRY_2, &SIBLINGS_3_1, &NO_SIBLINGS],
+        ..ASKING
+    },
+    report: b"sub:1:2 2:5\n",
+    sent: &[
+        Said::Out(&STREAM_OF_THREE),
+        Said::Out(&SUB_1_2),
+        Said::In(&ENTRY_2),
+        Said::In(&SIBLINGS_3_1),
+        Said::Out(&REVEAL),
+        Said::In(&NO_SIBLINGS),
+        Said::Out(&SUB_0_3),
+    ],
+    then: &[],
+    ..FIRST_RUN
+};
+
 // The run that is accepted.
 const THREE_QUERIES: Row<'static> = Row {
     name: "three queries",
     given: ASKING,
     report: b"sub:1:2 2:5\nsub:0:3 0:3 2:5 3:1\nsub:1:2 2:5\n",
     then: &[
-        Said::In(&ENTRY_2),
-        Said::In(&SIBLINGS_3_1),
-        Said::Out(&REVEAL),
-        Said::In(&NO_SIBLINGS),
-        Said::Out(&SUB_0_3),
         Said::In(&ENTRIES_0_2_3),
         Said::In(&NO_SIBLINGS),
         Said::Out(&REVEAL_FOR_QUERY_2),
@@ -47,38 +62,39 @@ const THREE_QUERIES: Row<'static> = Row {
         Said::In(&NO_SIBLINGS),
         Said::Out(&BYE),
     ],
-    ..FIRST_RUN
+    ..UP_TO_QUERY_2
 };
 
 const ACCEPTED: &[Row<'static>] = &[THREE_QUERIES];
 
-// The same up to the second query.
-const UP_TO_QUERY_2: Row<'static> = Row {
-    given: RunInput {
-        replies: &[&ENTRY_2, &SIBLINGS_3_1, &NO_SIBLINGS],
-        ..ASKING
-    },
-    report: b"sub:1:2 2:5\n",
+// The root tells that entries are left out.
+const TWO_LEFT_OUT: Faulty<'static> = Faulty {
+    name: "entries 0 and 3 are left out",
+    replies: &[
+        &ENTRY_2,
+        &NO_SIBLINGS,
+        &NO_SIBLINGS,
+        &ENTRY_2,
+        &SIBLINGS_3_1,
+        &NO_SIBLINGS,
+    ],
     then: &[
         Said::In(&ENTRY_2),
-        Said::In(&SIBLINGS_3_1),
-        Said::Out(&REVEAL),
         Said::In(&NO_SIBLINGS),
-        Said::Out(&SUB_0_3),
+        Said::Out(&REVEAL_FOR_QUERY_2),
+        Said::In(&NO_SIBLINGS),
     ],
-    ..THREE_QUERIES
+    round: 2,
+    reason: Reason::Root,
+    line: b"rejected query 2 round 2 Root\n",
 };
 
 // The line of query 1 stands, the line of the rejection is the last one, and nothing more is sent.
 // The bytes behind the fault are not taken.
 const ROWS: &[Faulty<'static>] = &[
     Faulty {
-        name: "nothing of reply 0 comes",
-        replies: &[],
-        then: &[Said::Ended],
-        round: 0,
-        reason: Reason::Closed,
         line: b"rejected query 2 round 0 Closed\n",
+        ..NOTHING_OF_REPLY_0
     },
     Faulty {
         name: "all items have no sibling",
@@ -101,26 +117,7 @@ const ROWS: &[Faulty<'static>] = &[
         reason: Reason::Refused(1),
         line: b"rejected query 2 round 1 Refused(1)\n",
     },
-    Faulty {
-        name: "entries 0 and 3 are left out",
-        replies: &[
-            &ENTRY_2,
-            &NO_SIBLINGS,
-            &NO_SIBLINGS,
-            &ENTRY_2,
-            &SIBLINGS_3_1,
-            &NO_SIBLINGS,
-        ],
-        then: &[
-            Said::In(&ENTRY_2),
-            Said::In(&NO_SIBLINGS),
-            Said::Out(&REVEAL_FOR_QUERY_2),
-            Said::In(&NO_SIBLINGS),
-        ],
-        round: 2,
-        reason: Reason::Root,
-        line: b"rejected query 2 round 2 Root\n",
-    },
+    TWO_LEFT_OUT,
     Faulty {
         name: "all items have no left sibling",
         replies: &[&LEFT_SIBLING_3, &NO_SIBLINGS],
@@ -137,9 +134,7 @@ const ROWS: &[Faulty<'static>] = &[
             Said::Out(&REVEAL_FOR_QUERY_2),
             Said::In(&NO_SIBLINGS),
         ],
-        round: 2,
-        reason: Reason::Root,
-        line: b"rejected query 2 round 2 Root\n",
+        ..TWO_LEFT_OUT
     },
 ];
 
@@ -158,19 +153,11 @@ const CUTS: &[Cut<'static>] = &[Cut {
     calls: &[
         Calls {
             name: "the stream of three queries",
-            at: At::First,
-            from: 1,
-            to: 4,
-            said: (5, 5),
-            written: (0, 0),
+            ..STREAM_AT_ONCE
         },
         Calls {
             name: "the seed of three queries",
-            at: At::Second,
-            from: 1,
-            to: 1,
-            said: (0, 0),
-            written: (0, 0),
+            ..SEED_AT_ONCE
         },
         Calls {
             name: "the link of three queries",

@@ -6,6 +6,7 @@ use crate::run_in_memory;
 use sip_cli::Words;
 use sip_ports::{MemoryLink, MemorySink, MemorySource, TalkEvent};
 use sip_verifier::Status;
+use sip_wire::Reason;
 use std::alloc::Global;
 use std::test::Fail;
 
@@ -52,8 +53,8 @@ pub enum Said<'a> {
     Ended,
 }
 
-/// What a run has to show: how it ends, with which exit code, the line that it writes, what it
-/// sends before it hears a reply, and what is said after that.
+/// What a run has to show: how it ends, with which exit code, the line that it writes, what is said
+/// first, as all that it sends before it hears a reply, and what is said after that.
 #[derive(Clone, Copy)]
 pub struct Row<'a> {
     pub name: &'a str,
@@ -207,6 +208,31 @@ pub const FIRST_RUN: Row<'static> = Row {
         Said::In(&NO_SIBLINGS),
         Said::Out(&BYE),
     ],
+};
+
+/// The root tells that leaf 0 is not 4.
+pub const REJECTED_GIVEN: RunInput<'static> = RunInput {
+    replies: &[&ENTRY_2, &SIBLINGS_4_1, &NO_SIBLINGS],
+    ..FIRST_GIVEN
+};
+
+pub const REJECTED_RUN: Row<'static> = Row {
+    name: "a rejection",
+    given: REJECTED_GIVEN,
+    status: Status::Rejected {
+        query: 1,
+        round: 2,
+        reason: Reason::Root,
+    },
+    code: 1,
+    report: b"rejected query 1 round 2 Root\n",
+    then: &[
+        Said::In(&ENTRY_2),
+        Said::In(&SIBLINGS_4_1),
+        Said::Out(&REVEAL),
+        Said::In(&NO_SIBLINGS),
+    ],
+    ..FIRST_RUN
 };
 
 /// A helper leaves the stream, the seed and the report alone.
