@@ -14,67 +14,55 @@ use std::alloc::Global;
 use std::process::Abort;
 use std::test::Fail;
 
-// A query of each kind of version 1, and what an honest helper replied.
-pub const FIVE_KINDS: &[&[u8]] = &[
-    &FIVE_ASKS,
-    &SUB_1_2,
-    &BLOCK,
-    &RANGE_1_3,
-    &BLOCK,
-    &F2,
-    &BLOCK,
-    &INNER,
-    &BLOCK,
-    &HEAVY_4,
-    &BLOCK,
-    &ENTRY_2,
-    &SIBLINGS_3_1,
-    &NO_SIBLINGS,
-    &CLAIM_6,
-    &ENTRIES_1,
-    &ENTRIES_2,
-    &CLAIM_35,
-    &SQUARES_1,
-    &SQUARES_2,
-    &CLAIM_11,
-    &PRODUCTS_1,
-    &PRODUCTS_2,
-    &LEAVES_5_1,
-    &LEVEL_END,
-    &NODE_OF_3,
-    &LEVEL_END,
-];
+// A query of each kind of version 1, and what an honest helper replied, from the frames that a
+// version writes in its own way.
+macro_rules! five_kinds {
+    ($asks:ident, $sub:ident, $range:ident, $entry:ident, $leaves:ident, $node:ident) => {
+        &[
+            &$asks,
+            &$sub,
+            &BLOCK,
+            &$range,
+            &BLOCK,
+            &F2,
+            &BLOCK,
+            &INNER,
+            &BLOCK,
+            &HEAVY_4,
+            &BLOCK,
+            &$entry,
+            &SIBLINGS_3_1,
+            &NO_SIBLINGS,
+            &CLAIM_6,
+            &ENTRIES_1,
+            &ENTRIES_2,
+            &CLAIM_35,
+            &SQUARES_1,
+            &SQUARES_2,
+            &CLAIM_11,
+            &PRODUCTS_1,
+            &PRODUCTS_2,
+            &$leaves,
+            &LEVEL_END,
+            &$node,
+            &LEVEL_END,
+        ]
+    };
+}
 
-// The same in version 2.
-pub const FIVE_WIDE_KINDS: &[&[u8]] = &[
-    &FIVE_WIDE_ASKS,
-    &SUB_1_2_WIDE,
-    &BLOCK,
-    &RANGE_1_3_WIDE,
-    &BLOCK,
-    &F2,
-    &BLOCK,
-    &INNER,
-    &BLOCK,
-    &HEAVY_4,
-    &BLOCK,
-    &ENTRY_2_WIDE,
-    &SIBLINGS_3_1,
-    &NO_SIBLINGS,
-    &CLAIM_6,
-    &ENTRIES_1,
-    &ENTRIES_2,
-    &CLAIM_35,
-    &SQUARES_1,
-    &SQUARES_2,
-    &CLAIM_11,
-    &PRODUCTS_1,
-    &PRODUCTS_2,
-    &LEAVES_5_1_WIDE,
-    &LEVEL_END,
-    &NODE_OF_3_WIDE,
-    &LEVEL_END,
-];
+// In version 1, and in version 2.
+pub const FIVE_KINDS: &[&[u8]] = five_kinds!(
+    FIVE_ASKS, SUB_1_2, RANGE_1_3, ENTRY_2, LEAVES_5_1, NODE_OF_3
+);
+
+pub const FIVE_WIDE_KINDS: &[&[u8]] = five_kinds!(
+    FIVE_WIDE_ASKS,
+    SUB_1_2_WIDE,
+    RANGE_1_3_WIDE,
+    ENTRY_2_WIDE,
+    LEAVES_5_1_WIDE,
+    NODE_OF_3_WIDE
+);
 
 // The entries of side 0 that are half of its total of 9 or more, and what an honest helper replied.
 pub const SHARE: &[&[u8]] = &[

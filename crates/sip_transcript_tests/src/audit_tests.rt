@@ -5,7 +5,7 @@ use crate::audit_frames::*;
 use sip_command_tests::case::Case;
 use sip_command_tests::frames::*;
 use sip_command_tests::play::{BOTH_SIDES, Played, run_play};
-use sip_command_tests::row::{At, Failing, RunInput, bytes_of};
+use sip_command_tests::row::{At, Failing, RunInput};
 use sip_command_tests::sum_frames::F2;
 use sip_stream::Why;
 use sip_verifier::{Port, Status};
@@ -72,15 +72,7 @@ const AUDITS: &[Stored<'static>] = &[
     (
         "audit s t",
         &THREE_RECORDS,
-        &[
-            &ONE_ASK,
-            &SUB_1_2,
-            &BLOCK,
-            &ENTRY_2,
-            &SIBLINGS_3_1,
-            &NO_SIBLINGS,
-            &[0],
-        ],
+        &[&TALK, &[0]],
         Status::BadTranscript { offset: 76 },
         b"sub:1:2 2:5\n",
     ),
@@ -138,14 +130,7 @@ const AUDITS: &[Stored<'static>] = &[
     (
         "audit s t",
         &TWO_RECORDS,
-        &[
-            &ONE_ASK,
-            &SUB_1_2,
-            &BLOCK,
-            &ENTRY_2,
-            &SIBLINGS_3_1,
-            &NO_SIBLINGS,
-        ],
+        &[&TALK],
         Status::Rejected {
             query: 1,
             round: 2,
@@ -318,16 +303,6 @@ fn an_audit_agrees_with_its_run(rt: HostRuntime) -> Result<(), Fail> {
     check_ends(&rt, alloc, &RUNS[0])
 }
 
-// The run whose transcript this is.
-const STORED: &[&[u8]] = &[
-    &ONE_ASK,
-    &SUB_1_2,
-    &BLOCK,
-    &ENTRY_2,
-    &SIBLINGS_3_1,
-    &NO_SIBLINGS,
-];
-
 // A port of its audit in single bytes, the number of its calls, and how the audit ends where one of
 // them fails.
 type Calls = (At, u64, Status);
@@ -367,8 +342,7 @@ fn check_calls(rt: &impl Abort, alloc: Global, given: &RunInput, calls: Calls) -
 #[test]
 fn each_call_of_an_audit_fails_once(rt: HostRuntime) -> Result<(), Fail> {
     let alloc = rt.alloc();
-    let stored = bytes_of(alloc, STORED)?;
-    let given = given("audit s t", &THREE_RECORDS, &stored);
+    let given = given("audit s t", &THREE_RECORDS, &TALK);
     for &calls in CALLS {
         check_calls(&rt, alloc, &given, calls)?;
     }

@@ -112,57 +112,48 @@ const READINGS: &[Stored<'static>] = &[
     ),
 ];
 
-// A query of each kind of version 1, and what an honest helper replied.
-const FIVE_LISTED: &[u8] = b"\
-depth 2
-query 1 sub:1:2 challenges 0000000000000002 000000000000000a
-query 2 range:0:1:3 challenges 0000000000000002 000000000000000a
-query 3 f2:0 challenges 0000000000000002 000000000000000a
-query 4 inner challenges 0000000000000002 000000000000000a
-query 5 heavy:0:4 challenges 0000000000000002 000000000000000a
-frame Entries 0001000000020000000000000005
-frame Siblings 0300000000000000030000000000000001
-frame Siblings 00
-frame Claim 0000000000000006
-frame Poly 00000000000000051ffffffffffffffe1ffffffffffffffc
-frame Poly 1ffffffffffffff900000000000000030000000000000000
-frame Claim 0000000000000023
-frame Poly 00000000000000221fffffffffffffc50000000000000019
-frame Poly 000000000000000900000000000000000000000000000000
-frame Claim 000000000000000b
-frame Poly 000000000000000b00000000000000001ffffffffffffff4
-frame Poly 1fffffffffffffdb00000000000000270000000000000000
-frame Leaves 0002000000020000000000000005000000030000000000000001
-frame LevelEnd -
-frame Nodes 00010000000000000000000000090000000000000003
-frame LevelEnd -
-";
+// What is listed of a query of each kind of version 1, and of what an honest helper replied: the
+// frames in which items have four bytes in version 1, and eight in version 2.
+macro_rules! five_listed {
+    ($entries:literal, $leaves:literal, $nodes:literal) => {
+        concat!(
+            "depth 2\n",
+            "query 1 sub:1:2 challenges 0000000000000002 000000000000000a\n",
+            "query 2 range:0:1:3 challenges 0000000000000002 000000000000000a\n",
+            "query 3 f2:0 challenges 0000000000000002 000000000000000a\n",
+            "query 4 inner challenges 0000000000000002 000000000000000a\n",
+            "query 5 heavy:0:4 challenges 0000000000000002 000000000000000a\n",
+            $entries,
+            "frame Siblings 0300000000000000030000000000000001\n",
+            "frame Siblings 00\n",
+            "frame Claim 0000000000000006\n",
+            "frame Poly 00000000000000051ffffffffffffffe1ffffffffffffffc\n",
+            "frame Poly 1ffffffffffffff900000000000000030000000000000000\n",
+            "frame Claim 0000000000000023\n",
+            "frame Poly 00000000000000221fffffffffffffc50000000000000019\n",
+            "frame Poly 000000000000000900000000000000000000000000000000\n",
+            "frame Claim 000000000000000b\n",
+            "frame Poly 000000000000000b00000000000000001ffffffffffffff4\n",
+            "frame Poly 1fffffffffffffdb00000000000000270000000000000000\n",
+            $leaves,
+            "frame LevelEnd -\n",
+            $nodes,
+            "frame LevelEnd -\n",
+        )
+    };
+}
 
-// The same in version 2, where items have eight bytes.
-const FIVE_WIDE_LISTED: &[u8] = b"\
-depth 2
-query 1 sub:1:2 challenges 0000000000000002 000000000000000a
-query 2 range:0:1:3 challenges 0000000000000002 000000000000000a
-query 3 f2:0 challenges 0000000000000002 000000000000000a
-query 4 inner challenges 0000000000000002 000000000000000a
-query 5 heavy:0:4 challenges 0000000000000002 000000000000000a
-frame Entries 000100000000000000020000000000000005
-frame Siblings 0300000000000000030000000000000001
-frame Siblings 00
-frame Claim 0000000000000006
-frame Poly 00000000000000051ffffffffffffffe1ffffffffffffffc
-frame Poly 1ffffffffffffff900000000000000030000000000000000
-frame Claim 0000000000000023
-frame Poly 00000000000000221fffffffffffffc50000000000000019
-frame Poly 000000000000000900000000000000000000000000000000
-frame Claim 000000000000000b
-frame Poly 000000000000000b00000000000000001ffffffffffffff4
-frame Poly 1fffffffffffffdb00000000000000270000000000000000
-frame Leaves 00020000000000000002000000000000000500000000000000030000000000000001
-frame LevelEnd -
-frame Nodes 0001000000000000000000000000000000090000000000000003
-frame LevelEnd -
-";
+const FIVE_LISTED: &str = five_listed!(
+    "frame Entries 0001000000020000000000000005\n",
+    "frame Leaves 0002000000020000000000000005000000030000000000000001\n",
+    "frame Nodes 00010000000000000000000000090000000000000003\n"
+);
+
+const FIVE_WIDE_LISTED: &str = five_listed!(
+    "frame Entries 000100000000000000020000000000000005\n",
+    "frame Leaves 00020000000000000002000000000000000500000000000000030000000000000001\n",
+    "frame Nodes 0001000000000000000000000000000000090000000000000003\n"
+);
 
 // The query that version 2 has alone.
 const SHARE_LISTED: &[u8] = b"\
@@ -184,14 +175,20 @@ fn transcripts(rt: HostRuntime) -> Result<(), Fail> {
         &rt,
         alloc,
         &[
-            ("show t", &[], FIVE_KINDS, Status::Wrote, FIVE_LISTED),
+            (
+                "show t",
+                &[],
+                FIVE_KINDS,
+                Status::Wrote,
+                FIVE_LISTED.as_bytes(),
+            ),
             ("convert t", &[], FIVE_KINDS, Status::Wrote, &wide),
             (
                 "show t",
                 &[],
                 FIVE_WIDE_KINDS,
                 Status::Wrote,
-                FIVE_WIDE_LISTED,
+                FIVE_WIDE_LISTED.as_bytes(),
             ),
             ("convert t", &[], FIVE_WIDE_KINDS, Status::Wrote, &wide),
             ("show t", &[], SHARE, Status::Wrote, SHARE_LISTED),
