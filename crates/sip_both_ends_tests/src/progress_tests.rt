@@ -3,7 +3,7 @@ ghost use Rattle.std.specs.Prelude.{◌≤◌};
 
 use crate::duel::{duel, heard, sent};
 use crate::ticking::{Ticking, said, taker};
-use sip_cli::{ToldLink, ToldSource, exit_code, read_words, run};
+use sip_cli::{ToldLink, ToldSource, Words, exit_code, read_words, run};
 use sip_command_tests::case::Case;
 use sip_command_tests::frames::*;
 use sip_command_tests::row::{At, FIRST_GIVEN, Failing, RunInput, Shown, link, source, words_of};
@@ -13,14 +13,22 @@ use std::alloc::Global;
 use std::process::Abort;
 use std::test::Fail;
 
-// What a run showed over ports that tell.
+// Ports of a run, of which those of the stream and of the talk tell.
 #[derive(Drop)]
 struct Told {
-    status: Status,
     first: ToldSource<MemorySource, MemorySink, Ticking>,
+    second: MemorySource,
     peer: ToldLink<MemoryLink, MemorySink, Ticking>,
     report: MemorySink,
     keep: MemorySink,
+}
+
+impl Told {
+    fn run(&mut self, alloc: Global, words: &Words) -> Status {
+        let (first, second) = (&mut self.first, &mut self.second);
+        let (report, keep) = (&mut self.report, &mut self.keep);
+        run(alloc, words, first, second, &mut self.peer, report, keep)
+    }
 }
 
 // Runs it over ports that move at most a chunk in a call, and tell. One call of a port fails, and
@@ -31,34 +39,22 @@ fn run_told(
     chunk: usize,
     failing: Option<Failing>,
     fails: &[u64],
-) -> Result<Told, Fail>
+) -> Result<(Status, Told), Fail>
     requires { 1 ≤ chunk }
 {
     let words = words_of(alloc, given.words)?;
     let command = read_words(&words)?;
     let first = source(alloc, given.stream, chunk, failing, At::First)?;
     let peer = link(alloc, given.replies, chunk, failing)?;
-    let mut first = ToldSource::new(&command, first, taker(alloc, fails.to_vec(alloc)?, None));
-    let mut peer = ToldLink::new(&command, peer, taker(alloc, fails.to_vec(alloc)?, None));
-    let mut second = source(alloc, given.seed, chunk, None, At::Second)?;
-    let mut report = MemorySink::new(alloc, chunk, Vec::new(alloc));
-    let mut keep = MemorySink::new(alloc, chunk, Vec::new(alloc));
-    let status = run(
-        alloc,
-        &words,
-        &mut first,
-        &mut second,
-        &mut peer,
-        &mut report,
-        &mut keep,
-    );
-    Ok(Told {
-        status,
-        first,
-        peer,
-        report,
-        keep,
-    })
+    let mut told = Told {
+        first: ToldSource::new(&command, first, taker(alloc, fails.to_vec(alloc)?, None)),
+        second: source(alloc, given.seed, chunk, None, At::Second)?,
+        peer: ToldLink::new(&command, peer, taker(alloc, fails.to_vec(alloc)?, None)),
+        report: MemorySink::new(alloc, chunk, Vec::new(alloc)),
+        keep: MemorySink::new(alloc, chunk, Vec::new(alloc)),
+    };
+    let status = told.run(alloc, &words);
+    Ok((status, told))
 }
 
 // The lines of a run: those about its stream, and those about its talk.
@@ -69,9 +65,9 @@ struct Lines<'a> {
 }
 
 // Nothing differs between a run over ports that tell and one over ports that don't.
-fn check_same(rt: &impl Abort, case: Case, told: &Told, plain: &Shown) {
-    case.ends(told.status, plain.status).expect(rt, "a case");
-    case.holds(exit_code(&told.status) == exit_code(&plain.status))
+fn check_same(rt: &impl Abort, case: Case, status: Status, told: &Told, plain: &Shown) {
+    case.ends(status, plain.status).expect(rt, "a case");
+    case.holds(exit_code(&status) == exit_code(&plain.status))
         .expect(rt, "a case");
     case.writes(told.report.bytes(), plain.report.bytes())
         .expect(rt, "a case");
@@ -93,12 +89,12 @@ fn check_lines(
     requires { 1 ≤ chunk }
 {
     let plain = given.run(alloc, chunk, None)?;
-    let told = run_told(given, alloc, chunk, None, fails)?;
+    let (status, told) = run_told(given, alloc, chunk, None, fails)?;
     let case = Case {
         name: given.words,
         number: chunk as u64,
     };
-    check_same(rt, case, &told, &plain);
+    check_same(rt, case, status, &told, &plain);
     case.writes(said(told.first.lines()), lines.stream.as_bytes())
         .expect(rt, "a case");
     case.writes(said(told.peer.lines()), lines.talk.as_bytes())
@@ -237,12 +233,12 @@ fn check_failing(rt: &impl Abort, alloc: Global, given: &RunInput, at: At) -> Re
     for number in 1..60 {
         let failing = Some(Failing { at, number });
         let plain = given.run(alloc, 1, failing)?;
-        let told = run_told(given, alloc, 1, failing, &[])?;
+        let (status, told) = run_told(given, alloc, 1, failing, &[])?;
         let case = Case {
             name: given.words,
             number,
         };
-        check_same(rt, case, &told, &plain);
+        check_same(rt, case, status, &told, &plain);
     }
     Ok(())
 }

@@ -4,7 +4,7 @@ ghost use Rattle.std.specs.Prelude.{◌≤◌};
 use crate::duel::{duel, heard};
 use sip_command_tests::case::Case;
 use sip_command_tests::frames::*;
-use sip_command_tests::row::{At, FIRST_GIVEN, Failing, RunInput, bytes_of};
+use sip_command_tests::row::{At, FIRST_GIVEN, Failing, REJECTED_GIVEN, RunInput, bytes_of};
 use sip_stream::Why;
 use sip_verifier::{Port, Status};
 use sip_wire::Reason;
@@ -67,10 +67,7 @@ const KEPT: &[Kept<'static>] = &[
     },
     Kept {
         name: "leaf 0 is not 4",
-        given: RunInput {
-            replies: &[&ENTRY_2, &SIBLINGS_4_1, &NO_SIBLINGS],
-            ..FIRST_GIVEN
-        },
+        given: REJECTED_GIVEN,
         status: Status::Rejected {
             query: 1,
             round: 2,
