@@ -1,4 +1,5 @@
 //! Running numbers, fed by blocks of updates.
+ghost use Rattle.std.specs.Prelude.{◌≡◌, ◌^◌, ◌<◌, ◌≤◌, nat_abs, length, All};
 
 use crate::line::{Line, Part, lesser};
 use crate::stream::{Generator, seat};
@@ -21,15 +22,25 @@ const NOTHING: Update = Update {
     delta: 0,
 };
 
+/// The next block of the stream.
+fn next_block(stream: &mut Generator, depth: Depth) -> [Update; BLOCK]
+    ensures long { length result ≡ 512 }
+    ensures items { All (λ u. u.item < 2 ^ depth) result }
+    ensures deltas { All (λ u. nat_abs u.delta ≤ 8) result }
+{
+    let mut block = [NOTHING; BLOCK];
+    for at in 0..BLOCK {
+        block[at] = stream.next_update(depth);
+    }
+    block
+}
+
 /// The blocks alone, which are no number's: what they cost in the parts below.
 pub(crate) fn updates(depth: Depth) -> Line {
     let mut stream = Generator::of_stream();
-    let mut block = [NOTHING; BLOCK];
     let mut checksum = 0u64;
     for _ in 0..BLOCKS {
-        for at in 0..BLOCK {
-            block[at] = stream.next_update(depth);
-        }
+        let block = next_block(&mut stream, depth);
         for update in &block {
             checksum = checksum.wrapping_add(update.item);
         }
@@ -47,12 +58,9 @@ pub(crate) fn updates(depth: Depth) -> Line {
 pub(crate) fn root(clock: &impl Clock, depth: Depth) -> io::Result<Line> {
     let mut root = Root::new(seat(depth));
     let mut stream = Generator::of_stream();
-    let mut block = [NOTHING; BLOCK];
     let mut time = Duration::MAX;
     for _ in 0..BLOCKS {
-        for at in 0..BLOCK {
-            block[at] = stream.next_update(depth);
-        }
+        let block = next_block(&mut stream, depth);
         let start = Instant::now(clock)?;
         root.update_all(&block);
         time = lesser(time, start.elapsed(clock)?);
@@ -70,12 +78,9 @@ pub(crate) fn root(clock: &impl Clock, depth: Depth) -> io::Result<Line> {
 pub(crate) fn point(clock: &impl Clock, depth: Depth) -> io::Result<Line> {
     let mut point = Point::new(seat(depth));
     let mut stream = Generator::of_stream();
-    let mut block = [NOTHING; BLOCK];
     let mut time = Duration::MAX;
     for _ in 0..BLOCKS {
-        for at in 0..BLOCK {
-            block[at] = stream.next_update(depth);
-        }
+        let block = next_block(&mut stream, depth);
         let start = Instant::now(clock)?;
         point.update_all(&block);
         time = lesser(time, start.elapsed(clock)?);
@@ -91,16 +96,13 @@ pub(crate) fn point(clock: &impl Clock, depth: Depth) -> io::Result<Line> {
 
 /// Blocks of updates of an augmented root. The least time of a block is taken.
 pub(crate) fn augroot(clock: &impl Clock, depth: Depth) -> io::Result<Line> {
-    let mut root = AugRoot::new(seat(depth));
+    let mut augmented = AugRoot::new(seat(depth));
     let mut stream = Generator::of_stream();
-    let mut block = [NOTHING; BLOCK];
     let mut time = Duration::MAX;
     for _ in 0..BLOCKS {
-        for at in 0..BLOCK {
-            block[at] = stream.next_update(depth);
-        }
+        let block = next_block(&mut stream, depth);
         let start = Instant::now(clock)?;
-        root.update_all(&block);
+        augmented.update_all(&block);
         time = lesser(time, start.elapsed(clock)?);
     }
     Ok(Line {
@@ -108,6 +110,6 @@ pub(crate) fn augroot(clock: &impl Clock, depth: Depth) -> io::Result<Line> {
         depth,
         count: BLOCK as u64,
         time,
-        checksum: root.hash,
+        checksum: augmented.hash,
     })
 }
