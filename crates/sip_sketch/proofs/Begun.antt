@@ -1,12 +1,11 @@
 -- The seats of a sketch that begins, one after another.
-use Rattle.std.proofs.Common.{◌≡◌, ℕ, zero, suc, ◌+◌, ◌-◌, ◌*◌, ◌/◌, ◌^◌, ◌<◌, ◌≤◌, Some, List, [], ◌∷◌, ◌++◌, length, map, All, get_or, take, drop, refl, sym, ap, ◌∙◌, arith, length-take-le, length-drop, take_all}
-use Rattle.std.proofs.Math.Nat.{suc-mul, mul_comm, mul-add-div, div-eq_of_lt, mul-le-mul_right}
-use Rattle.std.proofs.lemmas.List.{map-append, length-map, take_more, drop-drop}
+use Rattle.std.proofs.Common.{◌≡◌, ℕ, ◌+◌, ◌-◌, ◌*◌, ◌^◌, ◌<◌, ◌≤◌, Some, List, [], ◌∷◌, ◌++◌, length, map, All, get_or, take, drop, refl, sym, ap, ◌∙◌, arith, length-take-le, take_all}
+use Rattle.std.proofs.lemmas.List.{map-append, length-map, take_more}
 use Rattle.std.proofs.lemmas.List.Elements.{All-nil, All-cons, All-push}
 use Rattle.sip_field.specs.Elements.{m61_number}
 use Rattle.sip_field.specs.declared.mersenne.M61.{M61}
 use Rattle.sip_field.specs.Moduli.{m61_modulus}
-use Rattle.sip_vector.specs.Pieces.{pieces, cut}
+use Rattle.sip_vector.specs.Pieces.{pieces}
 use Rattle.sip_vector.specs.Tallies.{tally}
 use Rattle.sip_sketch.specs.declared.cursor.Size.TheVariants.{Byte, Word, Long}
 use Rattle.sip_sketch.specs.declared.kind.SeatKind.{SeatKind}
@@ -14,36 +13,10 @@ use Rattle.sip_sketch.specs.declared.parts.Parts.{Parts}
 use Rattle.sip_sketch.specs.Fields.{IsValue}
 use Rattle.sip_sketch.specs.Sketches.{IsSketch, SeatValues, element}
 use Rattle.sip_verifier.specs.Draws.{challenges_of}
+use Rattle.sip_verifier.proofs.SeatsGiven.{cut-whole, pieces-more}
 use Rattle.sip_sketch.specs.Standing.{IsBegun, Stands}
 use Rattle.sip_sketch.specs.inside.Beginning.{AreBegun, BeginsAt}
 use Rattle.sip_sketch.proofs.Whole.{SeatFits, ranged_value, sketch_from}
-
--- ---- blocks
-
-pieces-next : {X : Type 0} (k n : ℕ) (xs : List X) → pieces k (suc n) xs ≡ pieces k n xs ++ take k (drop (n * k) xs) ∷ []
-pieces-next k zero xs = let none : 0 ≡ zero * k = omega arith in ap (λ m. take k (drop m xs) ∷ []) none
-pieces-next k (suc n) xs =
-    let more = suc-mul n k in
-    let count : k + n * k ≡ suc n * k = omega arith in
-    ap (λ l. take k xs ∷ l) (pieces-next k n (drop k xs)) ∙ ap (λ l. take k xs ∷ (pieces k n (drop k xs) ++ take k l ∷ [])) (drop-drop (n * k) k xs ∙ ap (λ m. drop m xs) count)
-
-pieces-more : {X : Type 0} (k n : ℕ) (xs : List X) → pieces k (n + 1) xs ≡ pieces k n xs ++ take k (drop (n * k) xs) ∷ []
-pieces-more k n xs = let next : n + 1 ≡ suc n = omega arith in ap (λ m. pieces k m xs) next ∙ pieces-next k n xs
-
--- so many pieces are all of them
-pub cut-whole : {X : Type 0} (k n : ℕ) (xs : List X) → 1 ≤ k → length xs ≡ k * n → cut k xs ≡ pieces k n xs
-cut-whole k n xs some size =
-    let part : (k - 1) / k ≡ 0 = div-eq_of_lt (omega arith) in
-    let count : (length xs + (k - 1)) / k ≡ n = ap (λ m. (m + (k - 1)) / k) size ∙ mul-add-div (omega arith) n (k - 1) ∙ (let whole = part in omega arith) in
-    ap (λ m. pieces k m xs) count
-
--- a piece is whole
-pub piece-size : {X : Type 0} (k n i : ℕ) (xs : List X) → i < n → length xs ≡ k * n → length (take k (drop (i * k) xs)) ≡ k
-piece-size k n i xs lt size =
-    let room : suc i * k ≤ n * k = mul-le-mul_right k lt in
-    let more = suc-mul i k in
-    let turned = mul_comm k n in
-    length-take-le k (drop (i * k) xs) (omega (arith, length-drop (i * k) xs))
 
 -- ---- seats
 

@@ -1,7 +1,6 @@
 -- The next seat has room for what may come.
-use Rattle.std.proofs.Common.{◌≡◌, ℕ, ◌+◌, ◌^◌, ◌<◌, ◌≤◌, false, List, [], ◌∷◌, length, All, get_or, refl, sym, subst, inl, inr}
-use Rattle.std.proofs.lemmas.Bool.{cases_Bool}
-use Rattle.std.proofs.lemmas.List.Elements.{All-nil, All-cons, All-filter}
+use Rattle.std.proofs.Common.{◌≡◌, ℕ, ◌+◌, ◌^◌, ◌<◌, ◌≤◌, false, List, length, All, get_or, refl, sym, subst}
+use Rattle.std.proofs.lemmas.List.Elements.{All-filter}
 use Rattle.sip_vector.specs.Limits.{most_depth}
 use Rattle.sip_vector.specs.Streams.{most_weight, of_side, same_side, weight}
 use Rattle.sip_vector.specs.declared.update.Side.{Side}
@@ -15,7 +14,7 @@ use Rattle.sip_sketch.specs.Standing.{MayCome}
 use Rattle.sip_sketch.specs.inside.Raising.{own_of}
 use Rattle.sip_sketch.proofs.Kept.{IsTold, kept_room, weight_told}
 use Rattle.sip_sketch.proofs.Lifted.{RaisedTo, raised-next-old}
-use Rattle.sip_sketch.proofs.Runs.{own_is, same_true}
+use Rattle.sip_sketch.proofs.Runs.{own_is}
 use Rattle.sip_sketch.proofs.Whole.{SeatFits, fits_from, head_from, ranged_from}
 
 -- the next seat fits as it did
@@ -28,14 +27,7 @@ next_fits s updates k new d is raised lt =
 pub next_shallow : (s : SketchValues) (seat : SeatValues) → IsSketch s → SeatFits s.depth s.tally seat → length seat.block ≤ most_depth
 next_shallow s seat is fits = subst (λ n. n ≤ most_depth) (sym fits.levels) (ranged_from Byte 1 most_depth s.depth (head_from s is).depth).1
 
--- those of a side are of that side, and below
-pub all_own : (updates : List Update) (side : Side) → All (λ u. u.side ≡ side) (of_side updates side)
-all_own [] side = All-nil (λ (u : Update). u.side ≡ side)
-all_own (u ∷ updates) side = elim (cases_Bool (same_side u.side side)) [
-  | inl here ↦ rw here (All-cons (λ (v : Update). v.side ≡ side) u (of_side updates side) (same_true u.side side here) (all_own updates side))
-  | inr other ↦ rw other (all_own updates side)
-]
-
+-- those of a side are below
 pub own_below : (s : SketchValues) (seat : SeatValues) (updates own : List Update) (side : Side) → MayCome s updates → SeatFits s.depth s.tally seat → own ≡ of_side updates side
     → All (λ u. u.item < 2 ^ length seat.block) own
 own_below s seat updates own side come fits is =

@@ -21,7 +21,8 @@ use Rattle.sip_sketch.specs.Fields.{Field, IsValue}
 use Rattle.sip_sketch.specs.Seats.{IsSecond, first_number, numbers_kept, query_of, second_number, side_of}
 use Rattle.sip_sketch.specs.Sketches.{code_of, second_field, second_of, total_field}
 use Rattle.sip_sketch.specs.inside.Raising.{IsTotalAfter}
-use Rattle.sip_sketch.proofs.Totals.{light_after, moved, risen, told_back, told_moved, told_risen, told_small, total_more}
+use Rattle.sip_verifier.proofs.SeatTotals.{light_after}
+use Rattle.sip_sketch.proofs.Totals.{moved, risen, told_back, told_moved, told_risen, told_small, total_more}
 use Rattle.sip_sketch.proofs.Whole.{ranged_from, ranged_value}
 
 -- the two numbers say what is kept

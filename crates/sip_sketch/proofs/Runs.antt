@@ -1,5 +1,5 @@
--- Running numbers before any update, and behind more of them.
-use Rattle.std.proofs.Common.{◌≡◌, ℕ, ◌^◌, true, false, ℤ, pos, List, [], ◌∷◌, ◌++◌, length, replicate, refl, sym, ap, subst, ◌∙◌, inl, inr}
+-- Running numbers behind more updates.
+use Rattle.std.proofs.Common.{◌≡◌, ℕ, false, ℤ, List, [], ◌∷◌, ◌++◌, refl, sym, ap, subst, ◌∙◌, inl, inr}
 use Rattle.std.proofs.lemmas.Bool.{cases_Bool}
 use Rattle.sip_field.specs.Moduli.{m61_modulus}
 use Rattle.sip_mle.specs.StandsFor.{PointStandsFor}
@@ -9,8 +9,8 @@ use Rattle.sip_vector.specs.Weights.{numbers_after}
 use Rattle.sip_vector.specs.declared.update.Side.{Side}
 use Rattle.sip_vector.specs.declared.update.Side.TheVariants.{First, Second}
 use Rattle.sip_vector.specs.declared.update.Update.{Update}
-use Rattle.sip_vector.proofs.Sides.{vector-nil}
 use Rattle.sip_vector.proofs.TreeStreams.{vector_goes_on}
+use Rattle.sip_verifier.proofs.Seating.{same_true}
 use Rattle.sip_verifier.specs.QuerySeats.{RunsOn, root_is, point_is, points_are, aug_root_is}
 use Rattle.sip_sketch.specs.declared.kind.SeatKind.{SeatKind}
 use Rattle.sip_sketch.specs.declared.kind.SeatKind.TheVariants.{Entries, Sums, Products, Heavy}
@@ -18,12 +18,6 @@ use Rattle.sip_sketch.specs.Seats.{query_of, side_of}
 use Rattle.sip_sketch.specs.inside.Raising.{own_of}
 
 -- ---- the updates of a side
-
-pub same_true : (one other : Side) → same_side one other ≡ true → one ≡ other
-same_true First First is = refl
-same_true First Second is = absurd cc
-same_true Second First is = absurd cc
-same_true Second Second is = refl
 
 -- those of a side have that side alone
 pub side_twice : (us : List Update) (side : Side) → of_side (of_side us side) side ≡ of_side us side
@@ -110,25 +104,6 @@ both_after updates firsts seconds numbers is also =
       ap (numbers_after (numbers_after numbers (of_side firsts First))) empty ∙ ap (numbers_after numbers) one,
       ap (λ l. numbers_after (numbers_after numbers l) (of_side seconds Second)) without ∙ ap (numbers_after numbers) other,
     )
-
--- ---- no update
-
-module _ (depth : ℕ) (block : List ℕ) (size : length block ≡ depth) where
-  pub root_of_none : (value : ℕ) (side : Side) → RootStandsFor m61_modulus block value (replicate (2 ^ length block) (pos 0))
-      → RootStandsFor m61_modulus block value (vector depth [] side)
-  root_of_none value side stands = rw (vector-nil depth side)
-      (subst (λ n. RootStandsFor m61_modulus block value (replicate (2 ^ n) (pos 0))) size stands)
-
-  pub point_of_none : (value : ℕ) (side : Side) → PointStandsFor m61_modulus block value (replicate (2 ^ length block) (pos 0))
-      → PointStandsFor m61_modulus block value (vector depth [] side)
-  point_of_none value side stands = rw (vector-nil depth side)
-      (subst (λ n. PointStandsFor m61_modulus block value (replicate (2 ^ n) (pos 0))) size stands)
-
-  pub aug_root_of_none : (hash : ℕ) (total : ℤ) (side : Side)
-      → AugRootStandsFor m61_modulus block hash total (replicate (2 ^ length block) (pos 0))
-      → AugRootStandsFor m61_modulus block hash total (vector depth [] side)
-  aug_root_of_none hash total side stands = rw (vector-nil depth side)
-      (subst (λ n. AugRootStandsFor m61_modulus block hash total (replicate (2 ^ n) (pos 0))) size stands)
 
 -- the updates of a kind's side are its own
 pub own_is : (kind : SeatKind) (side : Side) (updates firsts seconds : List Update) → side_of kind ≡ side

@@ -1,5 +1,5 @@
 -- A side's total before and after more updates, alone and with the greatest weight added.
-use Rattle.std.proofs.Common.{◌≡◌, ℕ, zero, suc, ◌+◌, ◌-◌, ◌^◌, ◌<◌, ◌≤◌, Bool, true, false, ◌||◌, ℤ, pos, negsuc, ◌+ℤ◌, nat_abs, List, [], ◌∷◌, take, sum_by, refl, arith}
+use Rattle.std.proofs.Common.{◌≡◌, ℕ, ◌+◌, ◌-◌, ◌^◌, ◌<◌, ◌≤◌, Bool, true, false, ◌||◌, ℤ, pos, negsuc, ◌+ℤ◌, nat_abs, List, [], ◌∷◌, sum_by, refl, arith}
 use Rattle.std.specs.Prelude.{◌-ℤ◌, int_lt}
 use Rattle.std.specs.List.{list_any}
 use Rattle.std.proofs.lemmas.Int.{ints}
@@ -7,13 +7,11 @@ use Rattle.std.proofs.lemmas.List.Sums.{sum_by-cons}
 use Rattle.sip_tree.specs.Blocks.{total_after}
 use Rattle.sip_vector.specs.Streams.{most_weight}
 use Rattle.sip_vector.specs.declared.update.Update.{Update}
+use Rattle.sip_verifier.proofs.SeatTotals.{size}
 use Rattle.sip_sketch.specs.declared.cursor.Size.TheVariants.{Long}
 use Rattle.sip_sketch.specs.Fields.{IsValue}
 use Rattle.sip_sketch.specs.Sketches.{total_field}
 use Rattle.sip_sketch.proofs.Whole.{ranged_from, ranged_value}
-
-abbrev pub size : Update → ℕ
-size u = nat_abs u.delta
 
 -- a total that is not below the least one is told by its sum with the greatest weight
 pub told_back : (t : ℤ) → nat_abs t ≤ most_weight → pos (nat_abs (t +ℤ pos most_weight)) -ℤ pos most_weight ≡ t
@@ -22,15 +20,7 @@ told_back t few = omega (arith, ints, few)
 pub told_small : (t : ℤ) → nat_abs t ≤ most_weight → nat_abs (t +ℤ pos most_weight) ≤ most_weight + most_weight
 told_small t few = omega (arith, ints, few)
 
--- so many updates change a total by their weight at the most
-pub light_after : (updates : List Update) (total : ℤ) (w k : ℕ) → nat_abs total ≤ w → nat_abs (total_after total (take k updates)) ≤ w + sum_by size updates
-light_after updates total w zero light = omega (arith, light)
-light_after [] total w (suc k) light = omega (arith, light)
-light_after (u ∷ updates) total w (suc k) light =
-    let next : nat_abs (total +ℤ u.delta) ≤ w + size u = omega (arith, ints, light) in
-    omega (arith, light_after updates (total +ℤ u.delta) (w + size u) k next, sum_by-cons size u updates)
-
--- and add up
+-- updates change a total by their weight at the most
 pub moved : (updates : List Update) (total : ℤ) → nat_abs (total_after total updates -ℤ total) ≤ sum_by size updates
 moved [] total = omega (arith, ints)
 moved (u ∷ updates) total =

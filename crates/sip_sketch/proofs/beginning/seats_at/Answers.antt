@@ -3,10 +3,11 @@ use Rattle.std.proofs.Common.{◌≡◌, ◌+◌, ◌-◌, ◌*◌, ◌<◌, All
 use Rattle.std.proofs.lemmas.List.{length-map, take-map, drop-map}
 use Rattle.sip_field.specs.Elements.{m61_number}
 use Rattle.sip_field.specs.Moduli.{m61_modulus}
+use Rattle.sip_verifier.proofs.SeatsGiven.{block-size}
 use Rattle.sip_sketch.specs.Sketches.{SeatValues}
 use Rattle.sip_sketch.specs.declared.kind.SeatKind.TheVariants.{Entries}
 use Rattle.sip_sketch.specs.inside.Beginning.{AreBegun}
-use Rattle.sip_sketch.proofs.Begun.{all_below, begun_more, begun_none, piece-size}
+use Rattle.sip_sketch.proofs.Begun.{all_below, begun_more, begun_none}
 use Rattle.sip_sketch.proofs.beginning.seats_at.Goals as goal
 
 pub loop-index-init : goal.loop-index-init
@@ -26,7 +27,7 @@ loop-index-preserved c =
     let cut_out = ap (take k) (drop-map m61_number (i * k) c.args.challenges.now) ∙ take-map m61_number k (drop (i * k) c.args.challenges.now) in
     let block = c.begin.ensures.block ∙ c.in-Some.ensures.same
     ∙ ap (λ n. map m61_number (take n (drop (i * k) c.args.challenges.now))) levels ∙ sym cut_out in
-    let size = ap length block ∙ piece-size k (length asked) i numbers lt long in
+    let size = ap length block ∙ block-size k (length asked) i numbers lt long in
     subst (λ (l : List SeatValues). AreBegun k (i + 1) asked numbers l) (sym c.in_ok-push.ensures.items)
     (begun_more k i asked numbers c.loop-index.seats.items Entries c.begin.result c.loop-index.invariant lt c.begin.ensures.kind block
     (record {

@@ -5,7 +5,7 @@ use Rattle.sip_vector.specs.declared.update.Side.TheVariants.{First, Second}
 use Rattle.sip_verifier.specs.QuerySeats.{RunsOn, root_is, point_is, points_are, aug_root_is}
 use Rattle.sip_sketch.specs.Seats.{query_of}
 use Rattle.sip_sketch.specs.declared.kind.SeatKind.{SeatKind}
-use Rattle.sip_sketch.proofs.Runs.{root_of_none, point_of_none, aug_root_of_none}
+use Rattle.sip_verifier.proofs.SeatsGiven.{root_of_none, point_of_none, aug_root_of_none}
 use Rattle.sip_sketch.proofs.seat.begun.Goals as goal
 
 pub returns-in-Entries-clause-runs : goal.returns-in-Entries-clause-runs

@@ -4,7 +4,7 @@ use Rattle.std.proofs.lemmas.List.{with_items_is}
 use Rattle.sip_vector.specs.Tallies.{IsSound, joined}
 use Rattle.sip_vector.specs.declared.update.Side.TheVariants.{First, Second}
 use Rattle.sip_vector.specs.declared.update.Update.{Update}
-use Rattle.sip_sketch.proofs.Coming.{all_own}
+use Rattle.sip_verifier.proofs.Seating.{all_own}
 use Rattle.sip_sketch.proofs.Grown.{all_grown, all_sketch, next_seat, seen}
 use Rattle.sip_sketch.proofs.Lifted.{raised-more}
 use Rattle.sip_sketch.proofs.Sound.{come_sound, told_same}
