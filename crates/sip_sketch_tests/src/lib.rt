@@ -1,8 +1,10 @@
 //! What the file of a sketch is, byte by byte: what is read and written again, and the first fault
-//! of others; and what a sketch has that began and grew. Nothing but tests stands here, so that
-//! this layer is proved once.
+//! of others; what a sketch has that began and grew; and what the parts of a stream add up to.
+//! Nothing but tests stands here, so that this layer is proved once.
 #![tactic(auto)]
 
+#[cfg(test)]
+mod absorbing_tests;
 #[cfg(test)]
 mod file_tests;
 #[cfg(test)]
