@@ -292,7 +292,8 @@ fn obey_keeping<S: Source, C: Sink>(
     if let Some(status) = played {
         return status;
     }
-    if let Some(status) = panel(rt.alloc(), command, first, second, &mut report) {
+    let seated = panel(rt.alloc(), command, first, second, &mut report, negatives);
+    if let Some(status) = seated {
         return status;
     }
     obey(
