@@ -2,6 +2,7 @@
 it has to say behind that."""
 
 from .runs import asks_for_text, behind_progress, source
+from .transcripts import told
 from .words import ASKED, COMMANDS, LOOKUPS, QUERIES, Usage, read_words
 
 SHOWN = 64
@@ -186,10 +187,16 @@ def of_seed(said, files, readable):
 
 def of_credits(verb, said, files, outcome):
     """Large entries that were asked of a side that had numbers below 0."""
-    if verb not in ("verify", "play") or outcome.status not in ("Accepted", "Rejected"):
+    if verb not in ("verify", "play", "audit") or outcome.status not in ("Accepted", "Rejected"):
         return None
-    updates, _ = source(said["stream"], said["depth"], files)
-    asked = {question.side for question in said["queries"] if question.kind in ("heavy", "share")}
+    if verb == "audit":
+        it = told(files[said["transcript"]])
+        updates, _ = source(said["stored"], it.depth, files)
+        questions = [question for question, _ in it.asks]
+    else:
+        updates, _ = source(said["stream"], said["depth"], files)
+        questions = said["queries"]
+    asked = {question.side for question in questions if question.kind in ("heavy", "share")}
     sides = sorted(asked & {side for side, _, delta in updates if delta < 0})
     if not sides:
         return None
