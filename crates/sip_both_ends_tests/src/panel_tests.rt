@@ -7,6 +7,7 @@ use sip_command_tests::play::BOTH_SIDES;
 use sip_command_tests::row::words_of;
 use sip_ports::{MemorySink, MemorySource};
 use sip_stream::Why;
+use sip_vector::Negatives;
 use sip_verifier::Status;
 use sip_wire::Reason;
 use std::alloc::Global;
@@ -84,7 +85,10 @@ fn check_run(rt: &impl Abort, alloc: Global, Run(name, status, lines): Run) -> R
     let mut second = MemorySource::new(ZERO_SEED.to_vec(alloc)?, 5, Vec::new(alloc));
     let mut report = MemorySink::new(alloc, 10_000, Vec::new(alloc));
     let ended = match read_words(&words) {
-        Ok(command) => panel(alloc, &command, &mut first, &mut second, &mut report),
+        Ok(command) => {
+            let told = &mut Negatives::default();
+            panel(alloc, &command, &mut first, &mut second, &mut report, told)
+        }
         Err(_) => None,
     };
     let case = Case { name, number: 0 };
@@ -104,4 +108,40 @@ fn check_runs(rt: &impl Abort, alloc: Global, runs: &[Run]) -> Result<(), Fail> 
 #[test]
 fn the_helpers_of_the_names_are_asked_in_turn(rt: HostRuntime) -> Result<(), Fail> {
     check_runs(&rt, rt.alloc(), RUNS)
+}
+
+// Side 0 is (3, 0, 5, 0) and side 1 is (2, 7, 0, 0), each with a delta below 0 on the way.
+const CREDITS: &[u8] = b"0 0 3\n0 2 6\n0 2 -1\n1 0 2\n1 1 8\n1 1 -1\n";
+
+// What these words leave of both sides, where both were told of before.
+fn told(alloc: Global, text: &str) -> Result<Negatives, Fail> {
+    let mut first = MemorySource::new(CREDITS.to_vec(alloc)?, 7, Vec::new(alloc));
+    let mut second = MemorySource::new(ZERO_SEED.to_vec(alloc)?, 5, Vec::new(alloc));
+    let mut report = MemorySink::new(alloc, 10_000, Vec::new(alloc));
+    let mut told = Negatives {
+        first: true,
+        second: true,
+    };
+    if let Ok(command) = read_words(&words_of(alloc, text)?) {
+        let seen = &mut told;
+        let _ = panel(alloc, &command, &mut first, &mut second, &mut report, seen);
+    }
+    Ok(told)
+}
+
+#[test]
+fn credits_of_large_entries_are_told(rt: HostRuntime) -> Result<(), Fail> {
+    let rows = [
+        ("panel text:s k mute,honest 2 heavy:0:4 f2:1", true, false),
+        ("panel text:s k honest 2 share:1:1:2", false, true),
+        ("panel text:s k honest 2 f2:0 sub:0:3", false, false),
+        ("play text:s k honest - 2 heavy:0:4", true, true),
+    ];
+    for (name, first, second) in rows {
+        let sides = Negatives { first, second };
+        Case { name, number: 0 }
+            .holds(told(rt.alloc(), name)? == sides)
+            .expect(&rt, "a case");
+    }
+    Ok(())
 }

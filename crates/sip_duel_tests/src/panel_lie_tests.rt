@@ -14,7 +14,7 @@ use sip_duel::{Helper, HelperLink, Honest, Liar, Lie};
 use sip_ports::{MemorySink, MemorySource};
 use sip_session::panel;
 use sip_stream::Form;
-use sip_vector::Query;
+use sip_vector::{Negatives, Query};
 use sip_verifier::{Status, Task};
 use std::alloc::Global;
 use std::test::Fail;
@@ -61,7 +61,16 @@ fn run(
     let mut first = MemorySource::new(b"0 0 3\n0 1 5\n".to_vec(alloc)?, 5, Vec::new(alloc));
     let mut second = MemorySource::new(vec![in alloc; byte; 32]?, 5, Vec::new(alloc));
     let mut report = MemorySink::new(alloc, 10_000, Vec::new(alloc));
-    let status = panel(alloc, task, &mut first, &mut second, links, &mut report);
+    let told = &mut Negatives::default();
+    let status = panel(
+        alloc,
+        task,
+        &mut first,
+        &mut second,
+        links,
+        &mut report,
+        told,
+    );
     Ok((status, report))
 }
 

@@ -15,7 +15,7 @@ use sip_duel::{Helper, HelperLink, Honest, Mute, Skewed};
 use sip_ports::{MemorySink, MemorySource};
 use sip_session::panel;
 use sip_stream::Form;
-use sip_vector::{Query, Side};
+use sip_vector::{Negatives, Query, Side};
 use sip_verifier::{Status, Task};
 use sip_wire::Reason;
 use std::alloc::Global;
@@ -200,7 +200,16 @@ pub(crate) fn run(
     let fails = ports.second_fails.to_vec(alloc)?;
     let mut second = MemorySource::new(vec![in alloc; 0; ports.seed]?, 5, fails);
     let mut report = MemorySink::new(alloc, 10_000, ports.report_fails.to_vec(alloc)?);
-    let status = panel(alloc, task, &mut first, &mut second, links, &mut report);
+    let told = &mut Negatives::default();
+    let status = panel(
+        alloc,
+        task,
+        &mut first,
+        &mut second,
+        links,
+        &mut report,
+        told,
+    );
     Ok((status, report))
 }
 
@@ -277,5 +286,41 @@ fn each_helper_is_closed_once(rt: HostRuntime) -> Result<(), Fail> {
         watched[2].is_gone(4, 0),
     ];
     expect(&rt, "three counting helpers", &facts);
+    Ok(())
+}
+
+// Side 0 is (3, 0, 5, 0) and side 1 is (2, 7, 0, 0); side 1 alone has a delta below 0.
+const CREDITS: &[u8] = b"0 0 3\n0 2 5\n1 0 2\n1 1 8\n1 1 -1\n";
+
+// Which sides a panel tells of that asks these.
+fn told(alloc: Global, first: Query, second: Query) -> Result<(Status, Negatives), Fail> {
+    let task = two_queries(first, second)?;
+    let mut links = three_links(alloc, [M, H, H])?;
+    let mut stream = MemorySource::new(CREDITS.to_vec(alloc)?, 5, Vec::new(alloc));
+    let mut seed = MemorySource::new(vec![in alloc; 0; 32]?, 5, Vec::new(alloc));
+    let mut report = MemorySink::new(alloc, 10_000, Vec::new(alloc));
+    let mut told = Negatives {
+        first: true,
+        second: false,
+    };
+    let (from, to, seen) = (&mut stream, &mut report, &mut told);
+    let status = panel(alloc, &task, from, &mut seed, &mut links, to, seen);
+    Ok((status, told))
+}
+
+#[test]
+fn credits_of_large_entries_are_told(rt: HostRuntime) -> Result<(), Fail> {
+    let alloc = rt.alloc();
+    let large = |side| Query::Heavy { side, at_least: 4 };
+    let (status, sides) = told(alloc, large(Side::First), large(Side::Second))?;
+    let (other, none) = told(alloc, large(Side::First), SQUARES)?;
+    let facts = [
+        status == Status::Accepted,
+        !sides.first,
+        sides.second,
+        other == Status::Accepted,
+        none == Negatives::default(),
+    ];
+    expect(&rt, "a panel tells of credits", &facts);
     Ok(())
 }

@@ -4,10 +4,13 @@ use crate::audit::{FIVE_KINDS, FIVE_WIDE_KINDS, SHARE, Stored, check_each, check
 use crate::audit_frames::*;
 use sip_command_tests::case::Case;
 use sip_command_tests::frames::*;
-use sip_command_tests::play::{BOTH_SIDES, Played, run_play};
+use sip_command_tests::play::{BOTH_SIDES, Played, run_play, run_play_over};
 use sip_command_tests::row::{At, Failing, RunInput};
 use sip_command_tests::sum_frames::F2;
-use sip_stream::Why;
+use sip_ports::{MemorySink, MemorySource};
+use sip_stream::{Form, Why};
+use sip_transcript::audit;
+use sip_vector::Negatives;
 use sip_verifier::{Port, Status};
 use sip_wire::Reason;
 use std::alloc::Global;
@@ -346,5 +349,79 @@ fn each_call_of_an_audit_fails_once(rt: HostRuntime) -> Result<(), Fail> {
     for &calls in CALLS {
         check_calls(&rt, alloc, &given, calls)?;
     }
+    Ok(())
+}
+
+// Side 0 is (3, 0, 5, 0) and side 1 is (2, 7, 0, 0), each with a delta below 0 on the way.
+const CREDITS: &[u8] = b"0 0 3\n0 2 6\n0 2 -1\n1 0 2\n1 1 8\n1 1 -1\n";
+
+// A run over these sides, and of which of them its audit tells.
+type Told<'a> = (&'a str, Status, Negatives);
+
+const NONE: Negatives = Negatives {
+    first: false,
+    second: false,
+};
+
+const TOLD: &[Told<'static>] = &[
+    (
+        "play text:s k honest r 2 heavy:0:4 f2:1",
+        Status::Accepted,
+        Negatives {
+            first: true,
+            second: false,
+        },
+    ),
+    (
+        "play text:s k mute r 2 share:1:1:2",
+        Status::Rejected {
+            query: 1,
+            round: 0,
+            reason: Reason::Closed,
+        },
+        Negatives {
+            first: false,
+            second: true,
+        },
+    ),
+    (
+        "play text:s k honest r 2 f2:0 sub:0:3",
+        Status::Accepted,
+        NONE,
+    ),
+];
+
+// How the audit of a run ends, and which sides it tells of.
+fn told(alloc: Global, stream: &[u8], stored: &[u8]) -> Result<(Status, Negatives), Fail> {
+    let mut first = MemorySource::new(stream.to_vec(alloc)?, 7, Vec::new(alloc));
+    let mut second = MemorySource::new(stored.to_vec(alloc)?, 5, Vec::new(alloc));
+    let mut report = MemorySink::new(alloc, 1_000, Vec::new(alloc));
+    let mut told = Negatives {
+        first: true,
+        second: true,
+    };
+    let (from, by) = (&mut first, &mut second);
+    let status = audit(alloc, Form::Text, from, by, &mut report, &mut told);
+    Ok((status, told))
+}
+
+#[test]
+fn credits_of_large_entries_are_told(rt: HostRuntime) -> Result<(), Fail> {
+    let alloc = rt.alloc();
+    for (name, status, sides) in TOLD {
+        let shown = run_play_over(alloc, CREDITS, name)?;
+        let case = Case { name, number: 0 };
+        let (ended, told_of) = told(alloc, CREDITS, shown.keep.bytes())?;
+        case.ends(ended, *status).expect(&rt, "a case");
+        case.holds(told_of == *sides).expect(&rt, "a case");
+    }
+    let (ended, told_of) = told(alloc, CREDITS, b"SIP")?;
+    let case = Case {
+        name: "no head",
+        number: 0,
+    };
+    case.ends(ended, Status::BadTranscript { offset: 0 })
+        .expect(&rt, "a case");
+    case.holds(told_of == NONE).expect(&rt, "a case");
     Ok(())
 }
