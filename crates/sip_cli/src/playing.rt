@@ -16,7 +16,7 @@ ghost use Rattle.sip_cli.specs.PlayClause.{PlayClause};
 ghost use Rattle.sip_cli.specs.Words.{IsSpelled};
 
 use crate::{Command, HelperName};
-use sip_duel::{Helper, HelperLink, Honest, Mute, Skewed};
+use sip_duel::{Helper, HelperLink, Honest, Mute, MuteLink, Skewed, play_mute};
 use sip_field::OutOfMemory;
 use sip_ports::{Sink, Source};
 use sip_vector::Negatives;
@@ -35,7 +35,7 @@ pub(crate) fn honest(alloc: Global) -> Result<Box<Honest>, OutOfMemory>
 // The skewed helper, on the heap.
 #[inline(never)]
 pub(crate) fn skewed(alloc: Global) -> Result<Box<Skewed>, OutOfMemory> {
-    Ok(Box::new(alloc, Skewed::new(alloc))?)
+    Ok(Box::new(alloc, Skewed::new(alloc)?)?)
 }
 
 // A link to a boxed helper, which is the one of this name: so much is asked of the name, and what
@@ -66,7 +66,8 @@ fn play_named<A: Source, B: Source, K: Sink, C: Sink>(
     negatives: &mut Negatives,
 ) -> Result<Status, OutOfMemory>
     requires { CanBeDone task.now }
-    ensures played { IfOk result (PlayClause task.now (name ≡ HelperName.Honest)
+    ensures played { IfOk result (PlayClause task.now
+        (name ≡ HelperName.Honest) (name ≡ HelperName.Mute)
         (snapshot (port A.left A.faults first.old) (port B.left B.faults second.old)
         (telling []) (port K.talk K.faults report.old)
         (port C.talk C.faults keep.old))
@@ -88,7 +89,12 @@ fn play_named<A: Source, B: Source, K: Sink, C: Sink>(
     let mut link = match name {
         HelperName::Honest => link_to(alloc, name, honest(alloc)?)?,
         HelperName::Skewed => link_to(alloc, name, skewed(alloc)?)?,
-        HelperName::Mute => link_to(alloc, name, Box::new(alloc, Mute::new())?)?,
+        HelperName::Mute => {
+            let mut link = MuteLink::new(alloc, Box::new(alloc, Mute::new())?)?;
+            let link = &mut link;
+            let status = play_mute(alloc, task, first, second, link, report, keep, negatives);
+            return Ok(status);
+        }
     };
     let link = &mut link;
     Ok(sip_duel::play(alloc, task, first, second, link, report, keep, negatives))
@@ -113,12 +119,13 @@ pub fn play<A: Source, B: Source, K: Sink, C: Sink>(
 ) -> Option<Status>
     requires { IsSpelled command.now }
     // The seven promises, over the talk of a link that counts no fault. So the run never ends by a
-    // fault of the peer, and with the helper `honest` a good run is accepted.
+    // fault of the peer, with the helper `honest` a good run is accepted, and from the helper
+    // `mute` nothing is received.
     ensures played { MatchOption result
         ((task : AnyTask) (name : AnyName) → command.now ≢ Command.Play task name)
         (λ status. (task : AnyTask) × (name : AnyName)
         × (command.now ≡ Command.Play task name)
-        × PlayClause task (name ≡ HelperName.Honest)
+        × PlayClause task (name ≡ HelperName.Honest) (name ≡ HelperName.Mute)
         (snapshot (port A.left A.faults first.old) (port B.left B.faults second.old)
         (telling []) (port K.talk K.faults report.old)
         (port C.talk C.faults keep.old))

@@ -15,3 +15,5 @@ pub mod FaultLemmas
 pub mod StreamLemmas
 pub mod DoneLemmas
 pub mod AcceptLemmas
+pub mod MuteLemmas
+pub mod SkewLemmas

@@ -1,7 +1,9 @@
 pub mod Accepting
 pub mod Helping
 pub mod Lying
+pub mod Muting
 pub mod Receiving
+pub mod Skewing
 pub mod Story
 pub mod Taking
 pub mod Told

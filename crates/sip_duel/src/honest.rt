@@ -37,6 +37,7 @@ pub struct Honest {
 
 impl Honest {
     ghost use Rattle.std.specs.Prelude.{◌≡◌};
+    ghost use Rattle.sip_duel.specs.Skewing.{Passes};
     ghost use Rattle.sip_duel.specs.Told.{told_state};
     ghost use Rattle.sip_helper.specs.Turns.{fresh};
 
@@ -51,10 +52,13 @@ impl Honest {
     }
 
     /// Hears a message where it may come, and passes over another one.
-    pub(crate) fn slip_in(&mut self, message: &Message) {
+    pub(crate) fn slip_in(&mut self, message: &Message)
+        requires { IsTrue (fits Two message.now) }
+        ensures { Passes (told_state self.old) message.now (told_state self.new) }
+    {
         if let Standing::InTurn = self.standing {
-            if message.fits(Version::Two) {
-                let _ = self.core.hear(message);
+            if self.core.hear(message).is_err() {
+                return;
             }
         }
     }

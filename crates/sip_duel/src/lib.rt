@@ -16,11 +16,13 @@
 //!   and drops the helper. With an honest helper its talk is an honest one: `IsHonestTalk`. With a
 //!   good seed, a legal stream and ports that do not fail it is then accepted with the stream's own
 //!   answers, unless memory runs out at one of the two ends: `DuelAccepts`.
+//! - Nothing is received on a [`MuteLink`], and a run over it, [`play_mute`], rejects a query only
+//!   at its first reply, since the link has ended: `DuelCloses`.
 //! - `Honest` refuses a message out of turn once, and has ended then.
+//! - A `Skewed` helper hears and answers as an `Honest` one that hears one update more before the
+//!   end of the stream, where that may come.
 //! - A `Liar` appends the reply of the first of its lies that is about the point of the talk, and
 //!   has ended where there is none.
-//!
-//! The behaviour of `Skewed` is tested alone.
 //!
 //! # The definitions to read
 //!
@@ -39,14 +41,16 @@ mod liar;
 mod lie;
 mod link;
 mod mute;
+mod mute_link;
 mod skewed;
 mod wants;
 
-pub use duel::play;
+pub use duel::{play, play_mute};
 pub use helper::{Helper, More};
 pub use honest::Honest;
 pub use liar::Liar;
 pub use lie::Lie;
 pub use link::HelperLink;
 pub use mute::Mute;
+pub use mute_link::MuteLink;
 pub use skewed::Skewed;

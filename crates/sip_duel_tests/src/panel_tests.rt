@@ -37,7 +37,7 @@ fn link(alloc: Global, name: Name) -> Result<HelperLink, Fail>
 {
     let helper: Box<dyn Helper> = match name {
         Name::Honest => Box::new(alloc, Honest::new(alloc))?,
-        Name::Skewed => Box::new(alloc, Skewed::new(alloc))?,
+        Name::Skewed => Box::new(alloc, Skewed::new(alloc).ok().ok_or("a helper")?)?,
         Name::Mute => Box::new(alloc, Mute::new())?,
     };
     Ok(HelperLink::new(alloc, helper).ok().ok_or("a link")?)

@@ -22,6 +22,8 @@ returns-in-Err-clause-played g c =
         peer = λ e. cc;
         honest = λ is. nothing_is_honest;
         accepts = λ is x tells good none. inr (inl refl);
+        mute = λ is. refl;
+        closes = λ is x tells query round reason other. absurd cc;
       },
       λ bytes seed read drawn. record { judged = λ (judged : false ≡ true). absurd cc; other = inr (search rules) },
     )
