@@ -1,5 +1,6 @@
--- A moment that is open, as a helper keeps it: what is seen of it, and that its replies can be made.
-use Rattle.std.specs.Prelude.{◌≡◌, ℕ, ◌-◌, ◌^◌, ◌<◌, All, false, IfSome, length, Some, None, is_none}
+-- A moment that is open, as a helper keeps it: what is seen of it, and that it can be replied to.
+use Rattle.std.specs.Prelude.{◌≡◌, ℕ, ◌-◌, ◌^◌, ◌<◌, All, false, IfSome, length, Some, None}
+use Rattle.std.specs.Prelude.{is_none}
 use Rattle.sip_field.specs.Moduli.{m61_modulus}
 use Rattle.sip_vector.specs.Vectors.{SideVector}
 use Rattle.sip_helper.specs.Shown.{shown_vector}

@@ -1,7 +1,7 @@
 //! What a verifier keeps of a stream, in a file, so that it may run for weeks and be started again.
 //!
-//! A sketch has the depth of its vectors, which parts of a stream are in, what is told of the stream
-//! so far ([`Tally`](sip_vector::Tally)), and 1 to 64 seats. Each seat serves one question, and has
+//! A sketch has the depth of its vectors, which parts of a stream are in, what is told of the
+//! stream so far ([`Tally`](sip_vector::Tally)), and 1 to 64 seats. A seat serves one question, has
 //! challenges of its own and one running number or two. Whoever reads them before the question can
 //! make any answer accepted: no call shows them, and the file is for its owner alone.
 //!

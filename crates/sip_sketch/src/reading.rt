@@ -96,8 +96,8 @@ fn take_tally(cursor: &mut Cursor) -> Result<Tally, SketchFault>
     })
 }
 
-/// The numbers in front of the seats: the depth, the parts, what is told of the stream, and how many
-/// seats there are.
+/// The numbers in front of the seats: the depth, the parts, what is told of the stream, and how
+/// many seats there are.
 #[derive(Clone, Copy)]
 pub(crate) struct Head {
     pub(crate) depth: Depth,
