@@ -108,14 +108,8 @@ pub fn check_first(rt: &impl Abort, alloc: Global, run: &Row, rows: &[Faulty]) -
         then: &[],
         ..*run
     };
-    let query = 1;
-    check_faulty(
-        rt,
-        alloc,
-        &[Behind {
-            before,
-            query,
-            rows,
-        }],
-    )
+    for row in rows {
+        row.check(rt, alloc, &before, 1)?;
+    }
+    Ok(())
 }
