@@ -23,3 +23,5 @@ pub mod Grown
 pub mod Added
 pub mod Alike
 pub mod Summing
+pub mod Founded
+pub mod Crashes

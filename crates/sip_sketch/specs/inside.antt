@@ -1,5 +1,6 @@
 pub mod Adding
 pub mod Beginning
+pub mod Founding
 pub mod Heads
 pub mod Raising
 pub mod Spelling

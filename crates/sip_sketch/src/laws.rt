@@ -1,8 +1,15 @@
-//! Laws of the file. These functions do nothing: each contract is a fact that holds.
+//! Laws of the file, and of crashes while it is stored. These functions do nothing: each contract is a fact that holds.
 
-ghost use Rattle.std.specs.Prelude.{◌≡◌, ◌<◌, ℕ, List, Ok, All};
+ghost use Rattle.std.specs.Prelude.{◌≡◌, ◌⊎◌, ◌<◌, ◌++◌, ℕ, List, Ok, All, Some, take, Contains};
+ghost use Rattle.std.specs.declared.option.Option.{Option};
+ghost use Rattle.sip_ports.specs.Desk.{may_hold};
+ghost use Rattle.sip_ports.specs.declared.port.TalkEvent.{TalkEvent};
+ghost use Rattle.sip_sketch.specs.Beginnings.{Begins, IsNew};
 ghost use Rattle.sip_sketch.specs.Fields.{AreValues, Fields, read, spelling};
 ghost use Rattle.sip_sketch.specs.Sketches.{IsSketch, SketchValues, numbers};
+ghost use Rattle.sip_sketch.specs.declared.kind.SeatKind.{SeatKind};
+ghost use Rattle.sip_sketch.specs.declared.parts.Parts.{Parts};
+ghost use Rattle.sip_sketch.specs.declared.status.SketchStatus.{SketchStatus};
 
 /// Whatever the fields: what is read are values of the fields that spell the file, and the file
 /// that values of the fields spell is read as these.
@@ -18,4 +25,15 @@ pub fn reading_is_exact()
 pub fn numbers_tell_sketches_apart()
     ensures { (one other : SketchValues) → IsSketch one → IsSketch other
         → numbers one ≡ numbers other → one ≡ other }
+{}
+
+/// Whenever a crash comes while a sketch is begun, the file has what it might have before, or it is
+/// the whole file of the call, which the sketch of the empty stream has.
+#[tactic(auto, using(crate::proofs::Crashes::left_by_begin))]
+pub fn a_begin_leaves_whole_files()
+    ensures { (depth : ℕ) (part : Parts) (kinds : List SeatKind) (left start : Option (List ℕ))
+        (talk events : List TalkEvent) (status : SketchStatus) (n : ℕ) (content : Option (List ℕ))
+        → Begins depth part kinds left start (Some talk) (Some (talk ++ events)) status
+        → Contains (may_hold start (talk ++ take n events)) content
+        → Contains (may_hold start talk) content ⊎ IsNew depth part kinds left content }
 {}
