@@ -68,7 +68,10 @@ events_of depth part kinds left start talk events statuses.SeedSpent h = inl (ap
 events_of depth part kinds left start talk events statuses.Busy h = inl (append_cancel_left talk events [] h)
 events_of depth part kinds left start talk events (statuses.ReadFault ports.Second) h = inl (append_cancel_left talk events [] h.1)
 events_of depth part kinds left start talk events (statuses.ReadFault ports.Sketch) h = inl (append_cancel_left talk events [] h)
+events_of depth part kinds left start talk events (statuses.BadSketch number offset) h = absurd h
+events_of depth part kinds left start talk events (statuses.ReadFault ports.Report) h = absurd h
 events_of depth part kinds left start talk events (statuses.WriteFault ports.Second) h = absurd h
+events_of depth part kinds left start talk events (statuses.WriteFault ports.Report) h = absurd h
 events_of depth part kinds left start talk events (statuses.WriteFault ports.Sketch) h =
     let d = h.1 in
     inr (d.file, d.count, d.first, append_cancel_left talk events (take d.count (steps d.file)) d.talk)

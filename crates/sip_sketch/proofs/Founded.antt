@@ -8,7 +8,8 @@ use Rattle.sip_ports.specs.Ports.{GoesOn}
 use Rattle.sip_ports.specs.declared.port.TalkEvent.{TalkEvent}
 use Rattle.sip_ports.proofs.FaultLemmas.{Rose-since}
 use Rattle.sip_ports.proofs.TalkLemmas.{GoesOn-trans}
-use Rattle.sip_sketch.specs.Beginnings.{Begins, HasRisen, IsFirstFile, IsSeedOf, IsShort}
+use Rattle.sip_sketch.specs.Beginnings.{Begins, IsFirstFile, IsSeedOf, IsShort}
+use Rattle.sip_sketch.specs.Risen.{HasRisen}
 use Rattle.sip_sketch.specs.declared.kind.SeatKind.{SeatKind}
 use Rattle.sip_sketch.specs.declared.parts.Parts.{Parts}
 use Rattle.sip_sketch.specs.declared.status.SketchPort.TheVariants as ports
@@ -39,18 +40,21 @@ short_of (Some xs) (Some ys) buf came less took end =
     omega (arith, ap length split, length-take came buf)
 
 -- a fault that came behind other calls of the desk
-pub risen_since : (second seconds earlier before now : ℕ) (status : SketchStatus) → earlier ≤ before
-    → HasRisen second seconds before now status → HasRisen second seconds earlier now status
-risen_since second seconds earlier before now statuses.Wrote le rose = tt
-risen_since second seconds earlier before now statuses.Exists le rose = tt
-risen_since second seconds earlier before now statuses.BadSeed le rose = tt
-risen_since second seconds earlier before now statuses.SeedSpent le rose = tt
-risen_since second seconds earlier before now statuses.Busy le rose = tt
-risen_since second seconds earlier before now (statuses.ReadFault ports.Second) le rose = rose
-risen_since second seconds earlier before now (statuses.ReadFault ports.Sketch) le rose = Rose-since earlier before now le rose
-risen_since second seconds earlier before now (statuses.WriteFault ports.Second) le rose = rose
-risen_since second seconds earlier before now (statuses.WriteFault ports.Sketch) le rose = Rose-since earlier before now le rose
-risen_since second seconds earlier before now statuses.OutOfMemory le rose = tt
+pub risen_since : (second seconds earlier before now report reports : ℕ) (status : SketchStatus) → earlier ≤ before
+    → HasRisen second seconds before now report reports status → HasRisen second seconds earlier now report reports status
+risen_since second seconds earlier before now report reports statuses.Wrote le rose = tt
+risen_since second seconds earlier before now report reports statuses.Exists le rose = tt
+risen_since second seconds earlier before now report reports (statuses.BadSketch part offset) le rose = tt
+risen_since second seconds earlier before now report reports statuses.BadSeed le rose = tt
+risen_since second seconds earlier before now report reports statuses.SeedSpent le rose = tt
+risen_since second seconds earlier before now report reports statuses.Busy le rose = tt
+risen_since second seconds earlier before now report reports (statuses.ReadFault ports.Second) le rose = rose
+risen_since second seconds earlier before now report reports (statuses.ReadFault ports.Sketch) le rose = Rose-since earlier before now le rose
+risen_since second seconds earlier before now report reports (statuses.ReadFault ports.Report) le rose = rose
+risen_since second seconds earlier before now report reports (statuses.WriteFault ports.Second) le rose = rose
+risen_since second seconds earlier before now report reports (statuses.WriteFault ports.Sketch) le rose = Rose-since earlier before now le rose
+risen_since second seconds earlier before now report reports (statuses.WriteFault ports.Report) le rose = rose
+risen_since second seconds earlier before now report reports statuses.OutOfMemory le rose = tt
 
 -- a first file was stored behind a load that found none, or that stopped
 pub stored : (depth : ℕ) (part : Parts) (kinds : List SeatKind) (left start : Option (List ℕ))
@@ -80,11 +84,13 @@ stored depth part kinds left start old mid new file statuses.OutOfMemory none sa
   },
 )
 stored depth part kinds left start old mid new file statuses.Exists none same first did = absurd did
+stored depth part kinds left start old mid new file (statuses.BadSketch number offset) none same first did = absurd did
 stored depth part kinds left start old mid new file statuses.BadSeed none same first did = absurd did
 stored depth part kinds left start old mid new file statuses.SeedSpent none same first did = absurd did
 stored depth part kinds left start old mid new file statuses.Busy none same first did = absurd did
 stored depth part kinds left start old mid new file (statuses.ReadFault port) none same first did = absurd did
 stored depth part kinds left start old mid new file (statuses.WriteFault ports.Second) none same first did = absurd did
+stored depth part kinds left start old mid new file (statuses.WriteFault ports.Report) none same first did = absurd did
 
 -- what begin needs of them
 pub ruleset founding = (seed_of, short_of, risen_since, stored)

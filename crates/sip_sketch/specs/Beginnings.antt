@@ -2,7 +2,7 @@
 use Rattle.std.specs.Prelude.{◌≡◌, ◌⊎◌, ℕ, ◌*◌, ◌<◌, ◌≤◌, ⊤, List, [], length, take, None, Some}
 use Rattle.std.specs.declared.option.Option.{Option}
 use Rattle.sip_ports.specs.Desk.{Loads, steps}
-use Rattle.sip_ports.specs.Ports.{GoesOn, Rose}
+use Rattle.sip_ports.specs.Ports.{GoesOn}
 use Rattle.sip_ports.specs.declared.port.TalkEvent.{TalkEvent}
 use Rattle.sip_verifier.specs.Draws.{challenges_of}
 use Rattle.sip_sketch.specs.Sketches.{SketchValues, spelled_file}
@@ -74,17 +74,10 @@ module _ (depth : ℕ) (part : Parts) (kinds : List SeatKind) (left : Option (Li
   Begins start old new (statuses.WriteFault ports.Sketch) = Loads start old None × IsCut old new
   Begins start old new statuses.OutOfMemory =
       GoesOn old new [] ⊎ (Loads start old None × IsCut old new)
+  Begins start old new (statuses.BadSketch part offset) = ⊥
+  Begins start old new (statuses.ReadFault ports.Report) = ⊥
+  Begins start old new (statuses.WriteFault ports.Report) = ⊥
 
   -- this is what a file of the call has, whole
   abbrev pub IsNew : Option (List ℕ) → Type 0
   IsNew content = (file : List ℕ) × IsFirstFile file × (content ≡ Some file)
-
--- ---- causes
-
--- a fault comes only where the count of its port rose
-abbrev pub HasRisen : ℕ → ℕ → ℕ → ℕ → SketchStatus → Type 0
-HasRisen second seconds sketch sketches (statuses.ReadFault ports.Second) = Rose second seconds
-HasRisen second seconds sketch sketches (statuses.ReadFault ports.Sketch) = Rose sketch sketches
-HasRisen second seconds sketch sketches (statuses.WriteFault ports.Second) = ⊥
-HasRisen second seconds sketch sketches (statuses.WriteFault ports.Sketch) = Rose sketch sketches
-HasRisen second seconds sketch sketches _ = ⊤

@@ -3,7 +3,10 @@ pub mod Examples
 pub mod Fields
 pub mod Joining
 pub mod Reading
+pub mod Risen
+pub mod SeatLines
 pub mod Seats
+pub mod Showing
 pub mod Sketches
 pub mod Standing
 pub mod inside

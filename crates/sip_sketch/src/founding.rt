@@ -7,7 +7,8 @@ ghost use Rattle.sip_ports.specs.Desk.{Loads};
 ghost use Rattle.sip_ports.specs.Ports.{GoesOn, Lasts};
 ghost use Rattle.sip_ports.specs.declared.port.TalkEvent.{TalkEvent as AnyEvent};
 ghost use Rattle.sip_verifier.specs.Draws.{challenges_of};
-ghost use Rattle.sip_sketch.specs.Beginnings.{Begins, HasRisen, IsSeedOf};
+ghost use Rattle.sip_sketch.specs.Beginnings.{Begins, IsSeedOf};
+ghost use Rattle.sip_sketch.specs.Risen.{HasRisen};
 ghost use Rattle.sip_sketch.specs.Sketches.{SketchValues, most_seats, spelled_file};
 ghost use Rattle.sip_sketch.specs.Standing.{IsBegun};
 ghost use Rattle.sip_sketch.specs.declared.kind.SeatKind.{SeatKind as AnyKind};
@@ -27,8 +28,8 @@ fn find_none<D: Desk>(alloc: Global, desk: &mut D) -> Result<(), SketchStatus>
     ensures why { IfErr result (λ status. (depth : ℕ) (part : AnyParts) (kinds : List AnyKind)
         (left : Option (List ℕ)) → Begins depth part kinds left (D.start desk.old)
         (D.talk desk.old) (D.talk desk.new) status) }
-    ensures cause { IfErr result (λ status. (second seconds : ℕ) → HasRisen second seconds
-        (D.faults desk.old) (D.faults desk.new) status) }
+    ensures cause { IfErr result (λ status. (second seconds report reports : ℕ)
+        → HasRisen second seconds (D.faults desk.old) (D.faults desk.new) report reports status) }
     ensures free { D.is_sure desk.old → ¬ IsErrOf result statuses.Busy }
     ensures start { D.start desk.new ≡ D.start desk.old }
     ensures desk { Lasts D.faults D.wants D.is_sure desk.old desk.new }
@@ -51,8 +52,8 @@ fn read_seed<B: Source>(second: &mut B) -> Result<[u8; 32], SketchStatus>
     ensures why { IfErr result (λ status. (depth : ℕ) (part : AnyParts) (kinds : List AnyKind)
         (start : Option (List ℕ)) (old new : Option (List AnyEvent)) → Loads start old None
         → GoesOn old new [] → Begins depth part kinds (B.left second.old) start old new status) }
-    ensures cause { IfErr result (λ status. (sketch sketches : ℕ) → HasRisen
-        (B.faults second.old) (B.faults second.new) sketch sketches status) }
+    ensures cause { IfErr result (λ status. (sketch sketches report reports : ℕ) → HasRisen
+        (B.faults second.old) (B.faults second.new) sketch sketches report reports status) }
     ensures free { ¬ IsErrOf result statuses.Busy }
     ensures second { Lasts B.faults B.wants B.is_sure second.old second.new }
 {
@@ -95,8 +96,8 @@ fn first_file(
 // Puts a file in the place of the sketch.
 fn store<D: Desk>(desk: &mut D, file: &[u8]) -> SketchStatus
     ensures talk { Stores (D.talk desk.old) (D.talk desk.new) file.now result }
-    ensures cause { (second seconds : ℕ) → HasRisen second seconds (D.faults desk.old)
-        (D.faults desk.new) result }
+    ensures cause { (second seconds report reports : ℕ) → HasRisen second seconds
+        (D.faults desk.old) (D.faults desk.new) report reports result }
     ensures free { result ≢ statuses.Busy }
     ensures start { D.start desk.new ≡ D.start desk.old }
     ensures desk { Lasts D.faults D.wants D.is_sure desk.old desk.new }
@@ -137,8 +138,8 @@ pub fn begin<B: Source, D: Desk>(
     requires most { length kinds.now ≤ most_seats }
     ensures begins { Begins depth (record { count = parts; first = part; last = part }) kinds.now
         (B.left second.old) (D.start desk.old) (D.talk desk.old) (D.talk desk.new) result }
-    ensures cause { HasRisen (B.faults second.old) (B.faults second.new) (D.faults desk.old)
-        (D.faults desk.new) result }
+    ensures cause { (report reports : ℕ) → HasRisen (B.faults second.old) (B.faults second.new)
+        (D.faults desk.old) (D.faults desk.new) report reports result }
     ensures free { D.is_sure desk.old → result ≢ statuses.Busy }
     ensures start { D.start desk.new ≡ D.start desk.old }
     ensures second { Lasts B.faults B.wants B.is_sure second.old second.new }

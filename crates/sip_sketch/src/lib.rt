@@ -22,6 +22,8 @@
 //! - [`begin`] stores such a sketch in the file of a desk where there is none, and leaves each other
 //!   file as it is; its status says which. Whenever a crash comes, the file is whole
 //!   ([`laws::a_begin_leaves_whole_files`]).
+//! - [`seats`] writes these lines of a sketch and no others: none has a challenge or a number of a
+//!   seat.
 //! - [`Sketch::write`] writes that file, and takes memory only where there is less room than the
 //!   file has bytes ([`Sketch::size`]).
 //!
@@ -36,6 +38,9 @@
 //! | `Joining` | what a sketch and the next part add up to, and why a part is not added |
 //! | `Reading` | what reading answers, and the sketch or the fault that this is |
 //! | `Beginnings` | what each ending of [`begin`] says of its desk and its seed |
+//! | `Risen` | which port's faults rose at each ending |
+//! | `SeatLines` | the lines by which [`seats`] shows a sketch |
+//! | `Showing` | what each ending of [`seats`] says of its desk and its report |
 //! | `Examples` | what the examples work out |
 //!
 //! [`examples`] has two files with their digests, and the first faults of others.
@@ -52,6 +57,7 @@ pub mod laws;
 mod parts;
 mod reading;
 mod seat;
+mod showing;
 mod sketch;
 mod status;
 mod unlike;
@@ -64,6 +70,7 @@ pub use founding::begin;
 pub use kind::SeatKind;
 pub use parts::Parts;
 pub use seat::SketchSeat;
+pub use showing::seats;
 pub use sketch::Sketch;
 pub use status::{SketchPort, SketchStatus};
 pub use unlike::Unlike;

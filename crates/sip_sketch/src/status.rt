@@ -7,6 +7,8 @@ pub enum SketchPort {
     Second,
     /// The file of the sketch.
     Sketch,
+    /// The report.
+    Report,
 }
 
 /// How a call over a desk ended.
@@ -16,6 +18,12 @@ pub enum SketchStatus {
     Wrote,
     /// There is a file already, and be it an empty one.
     Exists,
+    /// The file of a part is no sketch from this byte on, or ends there; a missing one is none at
+    /// 0. Part 0 is the sketch of the desk.
+    BadSketch {
+        part: u32,
+        offset: u64,
+    },
     /// The seed has fewer than 32 bytes.
     BadSeed,
     /// Eight words of the seed in turn gave no challenge.
