@@ -244,7 +244,7 @@ def has_numbers(message):
     if name == "Found":
         flag, index = fields
         return flag == 1 or flag == index == 0
-    if name in ("AskLook", "AskMoment"):
+    if name in ("AskLook", "AskMoment", "Held", "Recall"):
         return True
     # Elements: those of Reveal, Poly, Power and Siblings.
     return all(x is None or x < P for x in fields)

@@ -21,13 +21,17 @@ CODES = {
     "Accepted": 0, "Served": 0, "Wrote": 0, "Page": 0, "Rejected": 1, "Usage": 2, "BadStream": 3,
     "BadSeed": 3, "BadTranscript": 3, "BadFrame": 3, "TooWide": 3, "TooHigh": 3,
     "ReadFault": 4, "WriteFault": 4, "PeerFault": 4, "PeerClosed": 4,
+    # Those of sketches.
+    "BadSketch": 3, "Exists": 3, "BadStart": 3, "Behind": 3, "Unlike": 3, "Busy": 3,
 }  # fmt: skip
 
 
 class Outcome(NamedTuple):
     """`said` is the line on standard error, and `reason` says more of the status. `to` is what
     stands in the file TO, or None where there is none. `turns` are the moments at which the other
-    end has the word: what was written to it before, and up to where its bytes are taken then."""
+    end has the word: what was written to it before, and up to where its bytes are taken then.
+    `left` are all files behind a run that has a sketch, by their names, and `stored` what each
+    replacement of it stored."""
 
     status: str
     said: str
@@ -35,6 +39,8 @@ class Outcome(NamedTuple):
     to: Optional[bytes]
     reason: str = ""
     turns: tuple = ()
+    left: Optional[dict] = None
+    stored: tuple = ()
 
     def code(self):
         return CODES[self.status]
@@ -44,17 +50,13 @@ def run(words, files, may_be_made=lambda name: True):
     """The run of these words, which are bytes, where these files stand. A file that a name can't be
     made of has no bytes."""
     words = behind_progress(words)
-    try:
-        verb, said = read_words([word.decode() for word in words])
-    except UnicodeDecodeError:
-        return Outcome("Usage", "sip: usage at word 0", b"", None)
-    except Usage as usage:
-        if asks_for_text(words):
-            return Outcome("Page", "", b"", None)
-        return Outcome("Usage", f"sip: usage at word {usage.word}", b"", None)
+    said, refused = read_or_refused(words, COMMANDS)
+    if refused:
+        return refused
     if asks_for_text(words) and said["transcript"] not in files:
         return Outcome("Page", "", b"", None)
     port = Ports(said, files, may_be_made)
+    verb = words[0].decode()
     return {
         "verify": verify, "lookup": verify, "moments": verify, "play": play, "help": help_,
         "helplook": help_, "helpmom": help_, "audit": audit, "show": read_back,
@@ -62,14 +64,26 @@ def run(words, files, may_be_made=lambda name: True):
     }[verb](verb, said, port)  # fmt: skip
 
 
+def read_or_refused(words, commands):
+    """What the words of a command say, or how a run ends whose words are none."""
+    try:
+        return read_words([word.decode() for word in words], commands)[1], None
+    except UnicodeDecodeError:
+        return None, Outcome("Usage", "sip: usage at word 0", b"", None)
+    except Usage as usage:
+        if asks_for_text(words, commands):
+            return None, Outcome("Page", "", b"", None)
+        return None, Outcome("Usage", f"sip: usage at word {usage.word}", b"", None)
+
+
 def behind_progress(words):
     return words[1:] if words[:1] == [b"--progress"] else words
 
 
-def asks_for_text(words):
+def asks_for_text(words, commands=COMMANDS):
     """Words for help or the version, alone, or for help behind a verb."""
     helps, versions = [[b"--help"], [b"-h"]], [[b"--version"], [b"-V"]]
-    verbs = [[verb.encode()] for verb in COMMANDS]
+    verbs = [[verb.encode()] for verb in commands]
     return words in helps + versions or words[:1] in verbs and words[1:] in helps
 
 
@@ -84,8 +98,9 @@ class Ports:
         # An output that is a file of the command is not opened. TO is there before RECORD is opened.
         to, record = said.get("to"), said.get("record", "-")
         read = {said.get("seed"), said.get("from")}
-        if "stream" in said and said["stream"].form != "made":
-            read.add(said["stream"].path)
+        stream = said.get("stream", said.get("stored"))
+        if stream and stream.form != "made":
+            read.add(stream.path)
         taken = to in files and (to in read or to == record != "-")
         self.to = None if to is None or taken or not may_be_made(to) else b""
         taken = record == to or record in files and record in read
@@ -101,19 +116,19 @@ def source(stream, depth, files):
 
 
 def help_(verb, _, port):
+    return heard(port, lambda data: serve(data, verb))
+
+
+def heard(port, talk):
+    """The run of a helper whose talk goes so of what comes over its link."""
     if port.replies is None:
         return Outcome("PeerFault", "sip: peer fault", b"", port.to)
-    served = serve(port.replies, verb)
+    served = talk(port.replies)
     if port.to is None and served.written:
         return Outcome("PeerFault", "sip: peer fault", b"", None)
-    said = {
-        "Served": "",
-        "PeerClosed": "sip: peer closed",
-        "BadFrame": f"sip: bad frame at offset {served.offset}",
-    }[served.status]
     return Outcome(
         served.status,
-        said,
+        served.said,
         b"",
         None if port.to is None else served.written,
         served.reason,

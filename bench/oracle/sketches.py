@@ -108,6 +108,21 @@ def watched(sketch, updates):
     )
 
 
+def stands(sketch, updates):
+    """Whether a sketch stands for a legal stream: what a used seat has is free."""
+    both = vectors(updates)
+    return (
+        sketch.records == len(updates)
+        and sketch.weights == tuple(side.weight for side in both)
+        and sketch.negatives == negatives(updates)
+        and sketch.fingerprint == fingerprint(updates)
+        and all(
+            seat.used or (seat.first, seat.second) == numbers(seat.kind, seat.block, both)
+            for seat in sketch.seats
+        )
+    )
+
+
 # ---- the file
 
 

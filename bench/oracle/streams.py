@@ -51,11 +51,14 @@ def next_line(data, at):
     return (side, item, delta), feed + 1
 
 
-def records(data, depth, form):
+def records(data, depth, form, known=0, kept=(0, 0)):
     """The legal updates that the bytes begin with, and the number of the first record that isn't
-    legal with why, or None where they are legal to their end."""
+    legal with why, or None where they are legal to their end. Behind the first `known` of them,
+    which are legal behind each other, records are legal behind a stream of the weights `kept`."""
     updates, weights, at = [], [0, 0], 0
     while at < len(data):
+        if len(updates) == known:
+            weights = list(kept)
         update, at = next_record(data, at, form)
         why = update if isinstance(update, str) else illegal(update, depth, weights)
         if why:

@@ -16,10 +16,10 @@ def shape(sketch):
     return sketch.depth, sketch.parts, [(seat.kind, seat.block) for seat in sketch.seats]
 
 
-def unlike(sketch, parts, number):
-    """Why the part with this number, behind those before it, does not go into the sum with
-    `sketch`, which is None where it is missing."""
-    part, before = parts[number - 1], parts[: number - 1]
+def unlike(sketch, parts, is_last):
+    """Why the last of these parts, behind those before it, does not go into the sum with `sketch`,
+    which is None where it is missing. `is_last` says that no part comes behind it."""
+    *before, part = parts
     if shape(part) != shape(sketch or parts[0]):
         return "Shape"
     if part.is_whole():
@@ -29,9 +29,9 @@ def unlike(sketch, parts, number):
     if before and part.first_part != before[-1].last_part + 1:
         return "NotNext"
     for side in (0, 1):
-        if sum(it.weights[side] for it in parts[:number]) > WEIGHT:
+        if sum(it.weights[side] for it in parts) > WEIGHT:
             return f"Heavy({side})"
-    if sketch is None or number < len(parts):
+    if sketch is None or not is_last:
         return None
     if sketch.first_part < parts[0].first_part or part.last_part < sketch.last_part:
         return "Missing"
@@ -48,7 +48,7 @@ def totals(parts):
 def summed(sketch, parts):
     """The sum of the parts, with the used seats of `sketch` as they are in it."""
     for number in range(1, len(parts) + 1):
-        why = unlike(sketch, parts, number)
+        why = unlike(sketch, parts[:number], number == len(parts))
         if why:
             raise Unlike(number, why)
     records, *weights = totals(parts)

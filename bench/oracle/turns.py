@@ -6,7 +6,6 @@ from . import honest
 from .field import WEIGHT
 from .frames import Fault, read, spelling
 from .questions import LOOKUPS, Question
-from .sketches import fingerprint
 from .streams import vectors
 
 # The most queries, lookups or moments of a talk.
@@ -15,13 +14,21 @@ QUERIES = 16
 
 class Served(NamedTuple):
     """`turns` are how much was written before each reply that was owed, and what had come by then;
-    the last one is the end."""
+    the last one is the end. `said` is the line on standard error."""
 
-    status: str  # Served, PeerClosed, or BadFrame with the offset
-    offset: int
+    status: str
+    said: str
     written: bytes
     turns: list
     reason: str
+
+
+class Stops(Exception):
+    """The talk ends here, and no message is to blame."""
+
+    def __init__(self, status, said, reason=""):
+        super().__init__(status, said, reason)
+        self.why = status, said, reason
 
 
 class Talk:
@@ -188,28 +195,6 @@ class QuestionTalk(Talk):
         return None
 
 
-class StoreTalk(QuestionTalk):
-    """The same over a store: how many of its records are the stream is said by a Recall."""
-
-    def __init__(self, store):
-        super().__init__()
-        self.store = store
-
-    def hear_updates(self, updates):
-        return None
-
-    def hear_endstream(self):
-        return None
-
-    def hear_recall(self, count):
-        if self.depth is None or self.both:
-            return None
-        self.updates = self.store[:count]
-        self.both = vectors(self.updates)
-        held = len(self.updates), *(side.weight for side in self.both), fingerprint(self.updates)
-        return [("Held", *held)]
-
-
 TALKS = {"help": Talk, "helplook": LookTalk, "helpmom": MomentTalk}
 
 
@@ -221,21 +206,26 @@ def served(data, talk):
     """How a talk goes that hears these bytes."""
     at, written, turns = 0, b"", []
 
-    def ends(status, upto, reason="", last=b""):
-        return Served(status, at, written + last, [*turns, (len(written), upto)], reason)
+    def ends(status, said, upto, reason="", last=b""):
+        return Served(status, said, written + last, [*turns, (len(written), upto)], reason)
 
+    bad_frame = "sip: bad frame at offset {}"
     while not talk.done:
         try:
             message, end = read(data, at, talk.place(), talk.version)
+            reply = talk.hear(message)
         except Fault as fault:
-            return ends(
-                "PeerClosed" if fault.reason == "Closed" else "BadFrame", len(data), fault.reason
-            )
-        reply = talk.hear(message)
+            if fault.reason == "Closed":
+                return ends("PeerClosed", "sip: peer closed", len(data), fault.reason)
+            return ends("BadFrame", bad_frame.format(at), len(data), fault.reason)
+        except Stops as stops:
+            status, said, reason = stops.why
+            return ends(status, said, end, reason)
         if reply is None:
-            return ends("BadFrame", end, "OutOfTurn", spelling(("Refuse", 4), talk.version))
+            refused = spelling(("Refuse", 4), talk.version)
+            return ends("BadFrame", bad_frame.format(at), end, "OutOfTurn", refused)
         if reply:
             turns.append((len(written), end))
             written += b"".join(spelling(part, talk.version) for part in reply)
         at = end
-    return ends("Served", at)
+    return ends("Served", "", at)

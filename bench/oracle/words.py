@@ -4,13 +4,13 @@ import re
 from typing import NamedTuple
 
 from .questions import LOOKUPS, Question
+from .sketches import DEEPEST, KINDS, MOST_PARTS, MOST_SEATS
 
 NUMBER = re.compile(r"0|[1-9][0-9]*", re.ASCII)
 HELPERS = ("honest", "skewed", "mute")
 QUERIES = 16
 
-# The shapes of a command's words behind its verb. A last one of `queries`, `lookups` or `moments`
-# stands for 1 to 16 of them.
+# The shapes of a command's words behind its verb.
 COMMANDS = {
     "verify": ("stream", "seed", "from", "to", "record", "depth", "queries"),
     "help": ("from", "to"),
@@ -26,7 +26,20 @@ COMMANDS = {
     "widen": ("stream", "depth"),
     "play": ("stream", "seed", "helper", "record", "depth", "queries"),
 }
+
+# Those of a sketch and of a store, which the program need not have.
+SKETCHES = {
+    "begin": ("sketch", "seed", "depth", "part", "seats"),
+    "watch": ("sketch", "stored", "at", "every"),
+    "merge": ("sketch", "parts"),
+    "seats": ("sketch",),
+}
+STORES = {"serve": ("stored", "from", "to")}
+
+# Of how many words a last shape stands for at most, where it is more than one. Words of seats say
+# how many each, and these many are in them all.
 ASKED = ("queries", "lookups", "moments")
+MOST = {**dict.fromkeys(ASKED, QUERIES), "seats": MOST_SEATS, "parts": 1024}
 
 
 class Usage(Exception):
@@ -101,40 +114,64 @@ def question(shape, word, depth):
     return Question(kind, *numbers)
 
 
-def value(shape, word, depth):
-    """What a word of this shape says; None where it has another one."""
+def seats(word, before):
+    """The kind of seats that a word says, so many times as it says; None where it says none, or too
+    many behind those before."""
+    kind, _, count = word.rpartition(":")
+    many = number(count, 1, MOST_SEATS - sum(map(len, before)))
+    if many is None or kind not in KINDS.values():
+        return None
+    return [code for code, name in KINDS.items() if name == kind] * many
+
+
+def part(word):
+    """The number of a part and that of all parts."""
+    one, slash, all_ = word.partition("/")
+    parts = number(all_, 1, MOST_PARTS)
+    one = None if parts is None or not slash else number(one, 1, parts)
+    return None if one is None else (one, parts)
+
+
+def value(shape, word, said):
+    """What a word of this shape says behind others; None where it has another one."""
     if shape == "stream":
         return stream(word)
     if shape == "stored":
         held = stream(word)
         return None if held is None or held.form == "made" else held
     if shape in ASKED:
-        return question(shape, word, depth)
+        return question(shape, word, said["depth"])
     if shape == "helper":
         return word if word in HELPERS else None
-    if shape in ("number", "count", "depth"):
-        limit = {"number": (0, 2**64 - 1), "count": (0, 10_000_000), "depth": (1, 48)}[shape]
-        return number(word, *limit)
-    return word or None
+    if shape == "seats":
+        return seats(word, said.get("seats", []))
+    if shape == "part":
+        return part(word)
+    if (shape, word) in (("at", "+"), ("every", "-")):
+        return word
+    limits = {
+        "number": (0, 2**64 - 1), "count": (0, 10_000_000), "depth": (1, DEEPEST),
+        "at": (0, 2**31), "every": (1, 2**31),
+    }  # fmt: skip
+    return number(word, *limits[shape]) if shape in limits else word or None
 
 
-def read_words(words):
+def read_words(words, commands=COMMANDS):
     """The verb and a dict of what its words say, by their shapes; lookups and moments are `queries`
     there too."""
-    if not words or words[0] not in COMMANDS:
+    if not words or words[0] not in commands:
         raise Usage(0)
-    shapes = COMMANDS[words[0]]
+    shapes = commands[words[0]]
     said = {}
     for at, word in enumerate(words[1:], 1):
-        is_query = at >= len(shapes) and shapes[-1] in ASKED
-        if at > len(shapes) + (QUERIES - 1 if is_query else 0):
+        shape = shapes[min(at, len(shapes)) - 1]
+        if at >= len(shapes) + MOST.get(shape, 1):
             raise Usage(at)
-        shape = shapes[-1] if is_query else shapes[at - 1]
-        read = value(shape, word, said.get("depth"))
+        read = value(shape, word, said)
         if read is None:
             raise Usage(at)
-        if is_query:
-            said.setdefault("queries", []).append(read)
+        if shape in MOST:
+            said.setdefault("queries" if shape in ASKED else shape, []).append(read)
         else:
             said[shape] = read
     if len(said) < len(shapes):

@@ -1,11 +1,10 @@
-"""Worked examples of a sketch by hand: its bytes, what adds up, where bytes are none, and the talk
-of a helper that has the stream in a store. The seed is 32 zero bytes, the depth 2, and the stream
-0 0 3, 0 2 5, 0 3 1."""
+"""Worked examples of a sketch by hand: its bytes, what adds up, and where bytes are none. The seed
+is 32 zero bytes, the depth 2, and the stream 0 0 3, 0 2 5, 0 3 1."""
 
 from oracle.field import P, WEIGHT
-from oracle.sketches import Bad, begun, listing, read, spelled, watched
+from oracle.sketches import Bad, begun, listing, numbers, read, spelled, stands, watched
+from oracle.streams import vectors
 from oracle.sums import Unlike, summed
-from oracle.turns import StoreTalk, served
 
 from .examples import same
 
@@ -74,7 +73,7 @@ def hold():
     same("the fingerprint behind it", more.fingerprint, 0xDA3A76C0ED546482)
     check_bytes()
     check_sums()
-    check_stores()
+    check_numbers()
 
 
 def check_bytes():
@@ -108,41 +107,44 @@ def check_sums():
     same("a seat that was asked", summed(asked, (one, two)).seats[0].used, True)
 
 
-OPEN = bytes.fromhex("010002 0102")
-RECALL = bytes.fromhex("270008 0000000000000003")
-HELD = bytes.fromhex("260020 0000000000000003 0000000000000009 0000000000000000 b8261ae7db4fab00")
-ASK = bytes.fromhex("210009 03 0000000000000001")
-FOUND = bytes.fromhex("220009 01 0000000000000002")
-QUERY = bytes.fromhex("040009 01 00000001 00000002")
-REVEAL = bytes.fromhex("050008 0000000000000002")
-CUBES = bytes.fromhex("240002 0003")
-BYE, END, END_STREAM = b"\x06\0\0", b"\x23\0\0", b"\x03\0\0"
-OUT_OF_TURN = bytes.fromhex("180001 04")
-
-# What a helper with a store of the stream, and of one record more, hears; what it says first, and
-# how the talk ends.
-TALKS = [
-    (OPEN + RECALL + BYE, HELD, ("Served", "")),
-    (OPEN + RECALL + ASK + QUERY + REVEAL + CUBES + REVEAL + BYE, HELD + FOUND, ("Served", "")),
-    (OPEN + RECALL + ASK * 16 + CUBES + BYE, HELD + FOUND * 16, ("Served", "")),
-    (OPEN + RECALL + ASK * 17, HELD + FOUND * 16 + OUT_OF_TURN, ("BadFrame", "OutOfTurn")),
-    (OPEN + RECALL + CUBES + QUERY, HELD, ("BadFrame", "OutOfTurn")),
-    (OPEN + RECALL + CUBES + ASK, HELD, ("BadFrame", "OutOfTurn")),
-    (OPEN + RECALL + QUERY + ASK, HELD, ("BadFrame", "OutOfTurn")),
-    (OPEN + RECALL + RECALL, HELD + OUT_OF_TURN, ("BadFrame", "OutOfTurn")),
-    (OPEN + END_STREAM, OUT_OF_TURN, ("BadFrame", "OutOfTurn")),
-    (OPEN + ASK, OUT_OF_TURN, ("BadFrame", "OutOfTurn")),
-    (RECALL, OUT_OF_TURN, ("BadFrame", "OutOfTurn")),
-    (OPEN + END, b"", ("BadFrame", "BadKind")),
-    (OPEN + RECALL, HELD, ("PeerClosed", "Closed")),
-]
+# A stream with both sides, numbers below 0, and an entry that goes back to 0.
+MIXED = [(0, 0, 3), (1, 5, 9), (0, 2, 5), (1, 5, -2), (0, 7, -4), (0, 2, -5), (1, 0, 1)]
+KINDS = [1, 2, 3, 4, 5, 6]
 
 
-def check_stores():
-    for heard, said, (status, reason) in TALKS:
-        talk = served(heard, StoreTalk(STREAM + [(0, 1, 2)]))
-        same(
-            f"the talk of a store that hears {heard.hex()}",
-            (talk.written.startswith(said), talk.status, talk.reason),
-            (True, status, reason),
-        )
+def weighted(entries, block):
+    """What the seats have of a side, as sums over its entries: its root, its extension, and the
+    hash of its tree with counts."""
+    root = extension = hash_ = 0
+    for item, value in entries.items():
+        in_root = in_extension = in_hash = 1
+        for bit, r in enumerate(block):
+            is_right = item >> bit & 1
+            in_root *= r if is_right else 1
+            in_extension *= r if is_right else 1 - r
+            in_hash = in_hash * r**2 + r**3 if is_right else in_hash + r
+        root += value * in_root
+        extension += value * in_extension
+        hash_ += value * in_hash
+    return root % P, extension % P, hash_ % P
+
+
+def check_numbers():
+    """Folds of whole vectors are sums over their entries, and what is added up stands."""
+    both = vectors(MIXED)
+    for block in ([2, 10, 5], [P - 1, 0, 7], [1207, P - 8, 3]):
+        (root, first, hash_), (_, second, other) = (weighted(v.entries, block) for v in both)
+        wanted = [
+            (root, 0), (first, 0), (second, 0), (first, second),
+            (hash_, WEIGHT + both[0].total), (other, WEIGHT + both[1].total),
+        ]  # fmt: skip
+        same(f"seats at {block}", [numbers(kind, block, both) for kind in KINDS], wanted)
+    empty = sketch = begun(bytes(range(32)), 3, 1, 1, KINDS)
+    for at, update in enumerate(MIXED, 1):
+        sketch = watched(sketch, [update])
+        same(f"a sketch of {at} records", sketch, watched(empty, MIXED[:at]))
+        same(f"a sketch of {at} records stands", stands(sketch, MIXED[:at]), True)
+    same("a sketch of another stream", stands(sketch, MIXED[:-1]), False)
+    begins = (begun(bytes(32), 3, part, 2, KINDS) for part in (1, 2))
+    parts = [watched(*pair) for pair in zip(begins, (MIXED[:4], MIXED[4:]))]
+    same("a sum stands", stands(summed(None, parts), MIXED), True)

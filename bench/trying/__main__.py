@@ -1,0 +1,7 @@
+"""Compares the definitions with their worked examples, and runs no program: `python3 -m trying` in
+this folder's own."""
+
+from . import examples, sketch_examples, sketch_run_examples, store_examples
+
+for of in (examples, sketch_examples, sketch_run_examples, store_examples):
+    of.hold()
