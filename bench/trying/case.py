@@ -5,8 +5,12 @@ from typing import NamedTuple, Optional
 
 class Case(NamedTuple):
     """`data` is what stands in the file that the words name as FROM, or comes through the FIFO of
-    that name."""
+    that name, and `given` is standard input. `folders` are names that no file can have, and `busy`
+    the names of sketches whose lock another process has."""
 
     words: list
     files: dict
     data: Optional[bytes] = None
+    given: bytes = b""
+    folders: tuple = ()
+    busy: tuple = ()

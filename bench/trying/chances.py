@@ -17,11 +17,11 @@ SEEDS = 50
 
 
 class Chances(random.Random):
-    """The chances of one case. The same name gives the same case."""
+    """The chances of one case, and its number. The same name gives the same case."""
 
-    def __init__(self, name, seed):
+    def __init__(self, name, seed, case=0):
         super().__init__(name)
-        self.seeds_from = seed
+        self.seeds_from, self.case = seed, case
 
     def one_in(self, many):
         return self.randrange(many) == 0

@@ -168,12 +168,13 @@ def whole(chance):
     }[verb]
 
 
-def changed(chance, words):
+def changed(chance, words, pool=WORDS):
+    """The words with one of them another one, or at another place."""
     words = list(words)
     at = chance.randrange(len(words) + 1)
     way = chance.choice(("front", "drop", "double", "swap", "other", "other", "insert", "letters"))
     if way == "insert" or at == len(words) or not words:
-        words.insert(at, chance.choice(WORDS))
+        words.insert(at, chance.choice(pool))
     elif way == "front":
         del words[at:]
     elif way == "drop":
@@ -184,7 +185,7 @@ def changed(chance, words):
         other = chance.randrange(len(words))
         words[at], words[other] = words[other], words[at]
     elif way == "other":
-        words[at] = chance.choice(WORDS)
+        words[at] = chance.choice(pool)
     else:
         words[at] = letters_changed(chance, words[at])
     return words

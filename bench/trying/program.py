@@ -1,8 +1,10 @@
 """Runs the program over files of a folder in memory, and tells what it wrote and how it ended."""
 
+import fcntl
 import os
 import select
 import signal
+import time
 from typing import NamedTuple, Optional
 
 # A run that takes longer, in seconds, hangs.
@@ -12,10 +14,18 @@ LONGEST = float(os.environ.get("LONGEST", "20"))
 # folder of their own.
 FROM, TO = "link.from", "link.to"
 
+# The file that is standard input, where there is more than nothing.
+GIVEN = "standard input"
+
+# Seconds in which a replacement of a sketch comes, once its last record was sent.
+SOON = 2
+
 
 class Ran(NamedTuple):
     """`code` is negative where a signal ended the run, and None where it hung. `to` is the file TO,
-    where it is there. `changed` are the names of files that were there and have other bytes now."""
+    where it is there. `changed` are the names of files that were there and have other bytes now,
+    and `left` are all files behind the run. `late` says which replacement of a sketch didn't
+    come."""
 
     code: Optional[int]
     report: bytes
@@ -23,6 +33,8 @@ class Ran(NamedTuple):
     to: Optional[bytes]
     early: bool = False
     changed: tuple = ()
+    left: Optional[dict] = None
+    late: str = ""
 
 
 class Hangs(Exception):
@@ -54,12 +66,12 @@ class Program:
         """Whether others can read the files of a run."""
         os.umask(0o022 if readable else 0o077)
 
-    def start(self, words):
+    def start(self, words, given=os.devnull):
         for written in (self.out, self.err):
             os.ftruncate(written, 0)
             os.lseek(written, 0, os.SEEK_SET)
         streams = [
-            (os.POSIX_SPAWN_OPEN, 0, os.devnull, os.O_RDONLY, 0),
+            (os.POSIX_SPAWN_OPEN, 0, given, os.O_RDONLY, 0),
             (os.POSIX_SPAWN_DUP2, self.out, 1),
             (os.POSIX_SPAWN_DUP2, self.err, 2),
         ]
@@ -83,22 +95,81 @@ class Program:
         finally:
             signal.setitimer(signal.ITIMER_REAL, 0)
 
-    def run(self, words, files, to=None):
+    def run(self, words, files, to=None, case=None):
         """Runs it over these files, which are there for this run alone."""
         os.chdir(self.files)
+        held = self.put(files, case)
+        code = self.wait(self.start(words, GIVEN if case and case.given else os.devnull))
+        for descriptor in held:
+            os.close(descriptor)
+        left = self.taken(case)
+        changed = tuple(name for name, data in files.items() if left.get(name) != data)
+        written = left.get(os.fsdecode(to)) if to else None
+        said = self.written(self.err)
+        return Ran(code, self.written(self.out), said, written, changed=changed, left=left)
+
+    def put(self, files, case):
+        """Makes the files of a case in the folder where the run is. The descriptors that hold what
+        is locked."""
         for name, data in files.items():
             with open(name, "wb") as file:
                 file.write(data)
-        code = self.wait(self.start(words))
-        written = None
-        if to is not None and os.path.isfile(to):
-            with open(to, "rb") as file:
-                written = file.read()
-        changed = tuple(name for name, data in files.items() if bytes_of(name) != data)
+        held = []
+        if case is None:
+            return held
+        if case.given:
+            with open(GIVEN, "wb") as file:
+                file.write(case.given)
+        for name in case.folders:
+            os.mkdir(name)
+        for name in case.busy:
+            held.append(os.open(name + ".lock", os.O_CREAT | os.O_RDWR, 0o600))
+            fcntl.flock(held[-1], fcntl.LOCK_EX | fcntl.LOCK_NB)
+        return held
+
+    def taken(self, case=None):
+        """The files that are there, which are taken away with all else."""
+        left = {}
         for name in os.listdir():
+            if case and name in case.folders:
+                os.rmdir(name)
+                continue
+            if name != GIVEN and os.path.isfile(name):
+                left[name] = bytes_of(name)
             os.unlink(name)
+        return left
+
+    def trickle(self, case, name, stored):
+        """Runs it over the stream of that name as a FIFO, of which more comes only when a sketch
+        was stored as it has to be: `stored` are how many bytes of the stream there are then, the
+        name of the sketch, and its bytes."""
+        os.chdir(self.files)
+        self.put({other: data for other, data in case.files.items() if other != name}, case)
+        os.mkfifo(name)
+        data, sent, late, code = case.files[name], 0, "", None
+        child = self.start(case.words)
+        signal.setitimer(signal.ITIMER_REAL, LONGEST)
+        try:
+            link = os.open(name, os.O_WRONLY)
+            try:
+                for number, (upto, sketch, wanted) in enumerate(stored, 1):
+                    sent += os.write(link, data[sent:upto])
+                    if not late and not comes(sketch, wanted):
+                        late = f"replacement {number}"
+                os.write(link, data[sent:])
+            except BrokenPipeError:
+                pass
+            finally:
+                os.close(link)
+            code = os.waitstatus_to_exitcode(os.waitpid(child, 0)[1])
+        except Hangs:
+            os.kill(child, signal.SIGKILL)
+            os.waitpid(child, 0)
+        finally:
+            signal.setitimer(signal.ITIMER_REAL, 0)
+        left = {**self.taken(case), name: data}
         said = self.written(self.err)
-        return Ran(code, self.written(self.out), said, written, changed=changed)
+        return Ran(code, self.written(self.out), said, None, left=left, late=late)
 
     def talk(self, words, files, data, turns, cuts):
         """Runs it over the two FIFOs, whose other end this is. In each turn so many bytes have
@@ -138,6 +209,17 @@ class Program:
         for name in files:
             os.unlink(name)
         return Ran(code, self.written(self.out), self.written(self.err), came, early)
+
+
+def comes(name, wanted):
+    """Whether a file gets these bytes soon."""
+    until = time.monotonic() + SOON
+    while True:
+        if os.path.isfile(name) and bytes_of(name) == wanted:
+            return True
+        if time.monotonic() > until:
+            return False
+        time.sleep(0.0002)
 
 
 def hears(descriptor, seconds):

@@ -38,15 +38,20 @@ def saying(chance, verb, depth, updates, draw):
         version = 2
     messages = talk(chance, depth, updates, questions, version)
     messages.append(("Bye",) if verb == b"help" else ("End",))
+    data = said(chance, messages, depth, version, stray)
+    return Case([verb, FROM.encode(), TO.encode()], {}, data)
+
+
+def said(chance, messages, depth, version, strays):
+    """The bytes of a talk, mostly with something changed. `strays` makes a message that may stand
+    between those of it."""
     for _ in range(chance.choice((0, 0, 1, 1, 1, 2))):
-        messages = changed(chance, messages, depth)
+        messages = changed(chance, messages, depth, strays)
     frames = [spelling(message, other_version(chance, version)) for message in messages]
     if chance.one_in(6):
         frames = changes.frame_changed(chance, frames)
     data = b"".join(frames)
-    if chance.one_in(6):
-        data = changes.bytes_changed(chance, data)
-    return Case([verb, FROM.encode(), TO.encode()], {}, data)
+    return changes.bytes_changed(chance, data) if chance.one_in(6) else data
 
 
 def other_version(chance, version):
@@ -61,7 +66,12 @@ def talk(chance, depth, updates, questions, version):
         messages.append(("Updates", updates[at:end]))
         at = end
     messages.append(("EndStream",))
-    both = vectors(updates)
+    return messages + asking(chance, depth, updates, questions)
+
+
+def asking(chance, depth, updates, questions):
+    """What is said behind the stream, up to the last message."""
+    messages, both = [], vectors(updates)
     for question in questions:
         messages.append(question.message())
         if question.kind in LOOKUPS:
@@ -80,7 +90,7 @@ def refused_or_short(chance, question, updates):
     return refused and not chance.one_in(5)
 
 
-def changed(chance, messages, depth):
+def changed(chance, messages, depth, strays):
     """A talk with one thing changed."""
     messages = list(messages)
     at = chance.randrange(len(messages))
@@ -99,7 +109,7 @@ def changed(chance, messages, depth):
         other = chance.randrange(len(messages))
         messages[at], messages[other] = messages[other], messages[at]
     elif way == "insert":
-        messages.insert(at, stray(chance, depth))
+        messages.insert(at, strays(chance, depth))
     elif way == "ahead":
         messages.insert(chance.randrange(at + 1), messages.pop(at))
     elif way == "end":

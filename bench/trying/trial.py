@@ -2,16 +2,17 @@
 
 import multiprocessing
 import os
+import subprocess
 import sys
 import tempfile
 import time
 from collections import Counter
-from typing import Callable, NamedTuple
+from typing import Callable, NamedTuple, Optional
 
 from harness.programs import proved
 from oracle.advice import advice
 from oracle.runs import behind_progress, run
-from oracle.words import Usage, read_words
+from oracle.words import SKETCHES, Usage, read_words
 
 from .chances import Chances
 from .program import FROM, TO, Program
@@ -21,13 +22,17 @@ ENOUGH = 20_000
 
 
 class Group(NamedTuple):
-    """`make` makes a case of its chances, and one in `fifos` goes over two FIFOs. `wanted` are the
-    outcomes that have to come among many cases. `also` tells what else is wrong with a report."""
+    """`make` makes a case of its chances, and one in `fifos` goes over two FIFOs, or has its stream
+    come bit by bit. `wanted` are the outcomes that have to come among many cases. `also` tells what
+    else is wrong with a report. `verbs` are commands without which the group is skipped. Where
+    `run` says what a case comes to, all files behind it are compared, and no advice is."""
 
     make: Callable
     fifos: int = 0
     wanted: list = []
     also: Callable = lambda case, report: ()
+    verbs: tuple = ()
+    run: Optional[Callable] = None
 
 
 class Trial:
@@ -84,18 +89,25 @@ class Trial:
     def differences(self, number):
         """Runs a case. What it came to, and what is other than it has to be, one line each."""
         name = f"{self.name} {self.settings.seed} {number}"
-        chance = Chances(name, self.settings.seed)
+        chance = Chances(name, self.settings.seed, number)
         case = self.group.make(chance)
         over_fifos = bool(self.group.fifos) and chance.one_in(self.group.fifos)
         files = {**case.files, FROM: case.data} if case.data is not None else case.files
+        ways = self.with_files if self.group.run else self.with_advice
+        outcome, found = ways(chance, case, files, over_fifos)
+        if found and self.settings.keep:
+            keep(os.path.join(self.settings.keep, name.replace(" ", "-")), case, files)
+        lines = [f"{name}: {' '.join(map(repr, case.words))}: {line}" for line in found]
+        return f"{outcome.status} {outcome.reason}".rstrip(), lines
+
+    def with_advice(self, chance, case, files, over_fifos):
+        """Compares a run, what it advises, and the files that it reads."""
         outcome = run(case.words, files, may_be_made)
         readable = chance.one_in(2)
         self.program.makes_files(readable)
         hints = advice(case.words, files, outcome, may_be_made, readable)
         if over_fifos and outcome.to is not None:
-            size = len(case.data)
-            cuts = sorted(chance.randint(0, size) for _ in range(chance.choice((0, 1, 3, 20))))
-            ran = self.program.talk(case.words, case.files, case.data, outcome.turns, cuts)
+            ran = self.over_fifos(chance, case, outcome)
         else:
             to = to_of(case.words)
             ran = self.program.run(case.words, files, to)
@@ -104,23 +116,74 @@ class Trial:
                 outcome = outcome._replace(to=files.get(to.decode(errors="replace")))
         lost = [name for name in read_by(case.words) if name in ran.changed]
         found = [*compared(outcome, ran), *advised(hints, ran), *self.group.also(case, ran.report)]
-        found += [f"it changes {name}, which it reads" for name in lost]
-        if found and self.settings.keep:
-            keep(os.path.join(self.settings.keep, name.replace(" ", "-")), case, files)
-        lines = [f"{name}: {' '.join(map(repr, case.words))}: {line}" for line in found]
-        return f"{outcome.status} {outcome.reason}".rstrip(), lines
+        return outcome, found + [f"it changes {name}, which it reads" for name in lost]
+
+    def with_files(self, chance, case, files, over_fifos):
+        """Compares a run and all files behind it, and what it stored before its end."""
+        outcome = self.group.run(case, files, lambda name: made_beside(case.folders, name))
+        ends = [FROM.encode(), TO.encode()]
+        if over_fifos and outcome.to is not None and case.words[-2:] == ends:
+            return outcome, [*compared(outcome, self.over_fifos(chance, case, outcome))]
+        stream, sketch = said_names(case.words) if over_fifos and outcome.stored else (None, None)
+        if stream in case.files and stream != sketch:
+            # The last replacement comes only behind the end of the stream.
+            steps = [(one.taken, sketch, one.bytes()) for one in outcome.stored[:-1]]
+            ran = self.program.trickle(case, stream, steps)
+        else:
+            ran = self.program.run(case.words, files, case=case)
+        # TO is one of the files that are left.
+        ran = ran._replace(to=outcome.to)
+        return outcome, [*compared(outcome, ran), *left_otherwise(outcome.left, ran)]
+
+    def over_fifos(self, chance, case, outcome):
+        size = len(case.data)
+        cuts = sorted(chance.randint(0, size) for _ in range(chance.choice((0, 1, 3, 20))))
+        return self.program.talk(case.words, case.files, case.data, outcome.turns, cuts)
 
 
 def tried(groups, settings):
     """Tries the groups that are asked for. 1 where something differs."""
     wrong, path = 0, os.path.abspath(proved("sip", ["--version"]))
     for name in settings.groups:
+        missing = [verb for verb in groups[name].verbs if not has(path, verb)]
+        if missing:
+            print(f"{name}: skipped, {path} has no {' and no '.join(missing)}", flush=True)
+            continue
         trial = Trial(name, groups[name], path, settings)
         trial.tries()
         wrong += trial.wrong
     if wrong:
         print(f"{wrong} differences", file=sys.stderr)
     return 1 if wrong else 0
+
+
+def has(path, verb):
+    """Whether the program has a command of that name."""
+    asked = subprocess.run([path, verb, "--help"], stdin=subprocess.DEVNULL, capture_output=True)
+    return asked.returncode == 0
+
+
+def made_beside(folders, name):
+    return name not in folders and may_be_made(name)
+
+
+def said_names(words):
+    """The stream and the sketch of a watch; twice nothing, of another command."""
+    _, said = read_words([word.decode() for word in words], SKETCHES)
+    return (said["stored"].path, said["sketch"]) if "stored" in said else (None, None)
+
+
+def left_otherwise(wanted, ran):
+    """What the files behind a run are other than they have to be."""
+    for name in sorted({*wanted, *ran.left}):
+        if ran.left.get(name) != wanted.get(name):
+            yield f"{name} has {in_hex(ran.left.get(name))}, not {in_hex(wanted.get(name))}"
+    if ran.late:
+        yield f"{ran.late} didn't come before more of the stream"
+
+
+def in_hex(data):
+    return "nothing" if data is None else f"{data[:200].hex()} ({len(data)} bytes)"
 
 
 def may_be_made(name):
