@@ -1,6 +1,7 @@
 """Cases of sums: the sketches of parts of a stream, in their order or not, of which some are lost,
 come twice, are too heavy, were asked, or are no sketches of that stream; and what is replaced."""
 
+from oracle.field import WEIGHT
 from oracle.sketches import MOST_PARTS, begun, spelled, watched
 from oracle.sums import Unlike, summed
 
@@ -8,7 +9,7 @@ from . import spoiled
 from .case import Case
 from .sketching import beside
 
-HALF = 2**29
+HALF = (WEIGHT + 1) // 2
 
 
 def case(chance):
@@ -139,8 +140,10 @@ def changed_sum(chance, it):
         return it._replace(records=min(max(it.records + chance.choice((1, -1)), 0), most))
     if way == "weight":
         side = chance.randrange(2)
-        update = (side, 0, 1)
-        return watched(it, [update]) if it.weights[side] < 2**30 - 1 else it
+        if it.weights[side] == WEIGHT:
+            return it
+        # One record adds up to as much as two others.
+        return watched(it, [(side, 0, 1)])._replace(records=it.records)
     if way == "first":
         return it._replace(first_part=max(it.first_part - 1, 1))
     return it._replace(last_part=min(it.last_part + 1, it.parts))

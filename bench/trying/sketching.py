@@ -2,7 +2,7 @@
 file is often spoiled, and the stream another than the one that the sketch has a front of."""
 
 from oracle import sketch_runs
-from oracle.sketches import spelled
+from oracle.sketches import KINDS, spelled
 from oracle.streams import illegal, record
 from oracle.words import SKETCHES, Usage, read_words
 
@@ -34,7 +34,7 @@ def run(case, files, may_be_made):
 def case(chance):
     """Words of `begin`, `watch` or `seats`, and their files."""
     depth = chance.depth()
-    make = chance.choices((begin, watch, seats), (20, 70, 10))[0]
+    make = chance.choices((begin, watch, seats), (20, 65, 15))[0]
     return beside(chance, make(chance, depth))
 
 
@@ -84,9 +84,19 @@ def begin(chance, depth):
     if chance.one_in(5):
         it = spoiled.sketch(chance, depth, [])
         files["sketch"] = chance.choice((b"", spelled(it), spoiled.spoiled(chance, it)))
-    seats_ = spoiled.words_of(spoiled.kinds(chance))
+    seats_ = many_seats(chance) if chance.one_in(10) else spoiled.words_of(spoiled.kinds(chance))
     words = ["begin", "sketch", "seed", str(depth), f"{part}/{parts}", *seats_]
     return Case([word.encode() for word in words], files)
+
+
+def many_seats(chance):
+    """Words of about as many seats as there may be, in one word or several."""
+    kinds = tuple(KINDS.values())
+    first = chance.choice((1, 31, 32, 63, 64, chance.randint(1, 64)))
+    counts = [first, *((64 - first + chance.choice((0, 0, 1)),) if first < 64 else ())]
+    if chance.one_in(3):
+        counts.insert(chance.randrange(len(counts) + 1), 1)
+    return [f"{chance.choice(kinds)}:{count}" for count in counts]
 
 
 def seats(chance, depth):
@@ -98,7 +108,7 @@ def seats(chance, depth):
 
 
 def bytes_of(chance, it):
-    return spoiled.spoiled(chance, it) if chance.one_in(3) else spelled(it)
+    return spoiled.spoiled(chance, it) if chance.one_in(2) else spelled(it)
 
 
 def watch(chance, depth):
@@ -106,12 +116,16 @@ def watch(chance, depth):
     log, form = chance.legal(depth), chance.form(depth)
     known = chance.choice((0, len(log), chance.randint(0, len(log))))
     stream, at, before = log, "0", log[:known]
-    way = chance.choice(("grown", "grown", "behind", "behind", "from", "rotated", "above"))
+    ways = ("grown", "grown", "behind", "behind", "from", "short", "rotated", "above")
+    way = chance.choice(ways)
     if way == "behind":
         stream, at = log[known:], chance.choice(("+", str(known)))
     elif way == "from":
         skipped = chance.randint(0, known)
         stream, at = log[skipped:], str(skipped)
+    elif way == "short":
+        skipped = chance.randint(0, known)
+        stream, at = log[skipped : chance.randint(skipped, known)], str(skipped)
     elif way == "rotated":
         # Another stream, which may be shorter, and too heavy behind the first.
         stream = chance.legal(depth)
@@ -122,7 +136,7 @@ def watch(chance, depth):
     if chance.one_in(15):
         it = it._replace(parts=3, last_part=chance.randint(1, 3))
     files = {"sketch": spelled(it), "stream": stream_bytes(chance, stream, depth, form)}
-    if chance.one_in(7):
+    if chance.one_in(5):
         files["sketch"] = spoiled.spoiled(chance, it)
     if chance.one_in(40):
         del files[chance.choice(("sketch", "stream"))]

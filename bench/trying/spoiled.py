@@ -10,19 +10,6 @@ from . import changes
 
 DIGEST = 32
 
-# The fields of the head: where each begins, and how many bytes it has.
-HEAD = (
-    (0, 4), (4, 1), (5, 1), (6, 4), (10, 4), (14, 4), (18, 8), (26, 8), (34, 8), (42, 1), (43, 8),
-    (51, 1),
-)  # fmt: skip
-SEATS = 52
-
-EDGES = (
-    0, 1, 2, 3, 4, 5, 6, 7, 9, 48, 49, 64, 65, 255, MOST_PARTS, WEIGHT - 1, WEIGHT, WEIGHT + 1,
-    2 * WEIGHT, 2 * WEIGHT + 1, P - 1, P, P + 1, 2**63, 2**64 - 1,
-)  # fmt: skip
-
-
 def kinds(chance):
     """The kinds of the seats of a sketch."""
     count = chance.choices((1, 2, chance.randint(3, 6), 64), (30, 40, 29, 1))[0]
@@ -60,31 +47,76 @@ def mended(data):
 
 
 def fields(it):
-    """Where each field begins, and how many bytes it has."""
-    width = 2 + 8 * (it.depth + 2)
-    for number in range(len(it.seats)):
-        at = SEATS + number * width
-        yield from ((at, 1), (at + 1, 1))
-        yield from ((at + 2 + 8 * level, 8) for level in range(it.depth + 2))
+    """Each field: where it begins, how many bytes it has, and numbers at the edges of what it may
+    have."""
+    yield from ((at, 1, (0x53, 0x49, 0x50, 0x4B)) for at in range(4))
+    heavy = WEIGHT, WEIGHT + 1, 1
+    counts = (0, 1, it.records - 1, it.records + 1, sum(it.weights), sum(it.weights) + 1)
+    yield from (
+        (4, 1, (0, 1, 2)),
+        (5, 1, (0, 1, 48, 49, it.depth - 1, it.depth + 1)),
+        (6, 4, (0, 1, it.last_part - 1, it.last_part, MOST_PARTS)),
+        (10, 4, (0, 1, it.last_part, it.last_part + 1, it.parts, MOST_PARTS)),
+        (14, 4, (0, it.first_part, it.first_part - 1, it.parts, it.parts + 1, MOST_PARTS)),
+        (18, 8, (0, it.weights[0] - 1, *heavy)),
+        (26, 8, (0, it.weights[1] - 1, *heavy)),
+        (34, 8, counts),
+        (42, 1, (0, 1, 2, 3, 4)),
+        (43, 8, (0, 2**64 - 1)),
+        (51, 1, (0, 1, 64, 65, len(it.seats) - 1, len(it.seats) + 1)),
+    )
+    for number, seat in enumerate(it.seats):
+        at = 52 + number * (2 + 8 * (it.depth + 2))
+        yield from ((at, 1, (0, 1, 4, 5, 6, 7)), (at + 1, 1, (0, 1, 2)))
+        block = range(at + 2, at + 2 + 8 * it.depth, 8)
+        yield from ((at, 8, (0, P - 1, P)) for at in (*block, block.stop))
+        yield block.stop + 8, 8, seconds(it, seat.kind)
+
+
+def seconds(it, kind):
+    """What may stand at the second number of a seat, or just may not."""
+    if kind < 5:
+        return 0, 1, P - 1, P
+    weight = it.weights[kind - 5]
+    ends = WEIGHT - weight, WEIGHT + weight
+    return (*ends, ends[0] - 1, ends[0] + 1, ends[1] - 1, ends[1] + 1, WEIGHT)
+
+
+def put(data, at, size, number):
+    return data[:at] + (number % 256**size).to_bytes(size, "big") + data[at + size :]
 
 
 def field_changed(chance, it):
     """The bytes with another number in one or two fields."""
-    data = spelled(it)
+    data, all_ = spelled(it), list(fields(it))
     for _ in range(chance.choice((1, 1, 1, 2))):
-        heads = HEAD if chance.one_in(2) else tuple(fields(it))
-        at, size = chance.choice(heads)
+        at, size, edges = chance.choice(all_[:15] if chance.one_in(2) else all_)
         old = int.from_bytes(data[at : at + size], "big")
-        near = (old + 1, old - 1, old ^ 1 << chance.randrange(8 * size), chance.getrandbits(64))
-        new = chance.choice((*near, chance.choice(EDGES), chance.choice(EDGES)))
-        data = data[:at] + (new % 256**size).to_bytes(size, "big") + data[at + size :]
+        other = (old + 1, old - 1, old ^ 1 << chance.randrange(8 * size), chance.getrandbits(64))
+        data = put(data, at, size, chance.choice(other if chance.one_in(4) else edges))
     return data if chance.one_in(6) else mended(data)
+
+
+def counted_changed(chance, it):
+    """The bytes with another total in a seat for heavy entries, used or not, on a side with numbers
+    below 0 or not."""
+    counted = [number for number, seat in enumerate(it.seats) if seat.kind >= 5]
+    if not counted:
+        return field_changed(chance, it)
+    number, width = chance.choice(counted), 2 + 8 * (it.depth + 2)
+    at, kind = 52 + number * width, it.seats[number].kind
+    data = put(spelled(it), at + width - 8, 8, chance.choice(seconds(it, kind)))
+    if chance.one_in(2):
+        data = put(data, at + 1, 1, 1)
+    if chance.one_in(2):
+        data = put(data, 42, 1, chance.randrange(4))
+    return mended(data)
 
 
 def cut(chance, it):
     """The front of the bytes, often up to the edge of a field, or bytes behind their end."""
     data = spelled(it)
-    ends = [at for at, _ in (*HEAD, *fields(it))]
+    ends = [at for at, *_ in fields(it)]
     end = chance.choice((chance.choice(ends), chance.randint(0, len(data)), len(data) - 1))
     longer = data + chance.randbytes(chance.choice((1, 2, 32, 30_000)))
     return chance.choice((data[:end], data[:end], mended(data[:end] + bytes(DIGEST)), longer))
@@ -92,8 +124,8 @@ def cut(chance, it):
 
 def spoiled(chance, it):
     """The bytes of a sketch with something else in them."""
-    way = chance.choice((field_changed, field_changed, field_changed, cut, bytes_changed))
-    return way(chance, it)
+    ways = (field_changed, counted_changed, cut, bytes_changed)
+    return chance.choices(ways, (45, 30, 12, 13))[0](chance, it)
 
 
 def bytes_changed(chance, it):
