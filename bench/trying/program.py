@@ -24,8 +24,8 @@ SOON = 2
 class Ran(NamedTuple):
     """`code` is negative where a signal ended the run, and None where it hung. `to` is the file TO,
     where it is there. `changed` are the names of files that were there and have other bytes now,
-    and `left` are all files behind the run. `late` says which replacement of a sketch didn't
-    come."""
+    and `left` are all files behind the run, with their `modes`. `late` says which replacement of a
+    sketch didn't come."""
 
     code: Optional[int]
     report: bytes
@@ -34,6 +34,7 @@ class Ran(NamedTuple):
     early: bool = False
     changed: tuple = ()
     left: Optional[dict] = None
+    modes: Optional[dict] = None
     late: str = ""
 
 
@@ -102,11 +103,11 @@ class Program:
         code = self.wait(self.start(words, GIVEN if case and case.given else os.devnull))
         for descriptor in held:
             os.close(descriptor)
-        left = self.taken(case)
+        left, modes = self.taken(case)
         changed = tuple(name for name, data in files.items() if left.get(name) != data)
         written = left.get(os.fsdecode(to)) if to else None
-        said = self.written(self.err)
-        return Ran(code, self.written(self.out), said, written, changed=changed, left=left)
+        report, said = self.written(self.out), self.written(self.err)
+        return Ran(code, report, said, written, changed=changed, left=left, modes=modes)
 
     def put(self, files, case):
         """Makes the files of a case in the folder where the run is. The descriptors that hold what
@@ -128,16 +129,16 @@ class Program:
         return held
 
     def taken(self, case=None):
-        """The files that are there, which are taken away with all else."""
-        left = {}
+        """The files that are there and their modes, which are taken away with all else."""
+        left, modes = {}, {}
         for name in os.listdir():
             if case and name in case.folders:
                 os.rmdir(name)
                 continue
             if name != GIVEN and os.path.isfile(name):
-                left[name] = bytes_of(name)
+                left[name], modes[name] = bytes_of(name), os.stat(name).st_mode & 0o777
             os.unlink(name)
-        return left
+        return left, modes
 
     def trickle(self, case, name, stored):
         """Runs it over the stream of that name as a FIFO, of which more comes only when a sketch
@@ -167,9 +168,10 @@ class Program:
             os.waitpid(child, 0)
         finally:
             signal.setitimer(signal.ITIMER_REAL, 0)
-        left = {**self.taken(case), name: data}
-        said = self.written(self.err)
-        return Ran(code, self.written(self.out), said, None, left=left, late=late)
+        left, modes = self.taken(case)
+        left[name] = data
+        report, said = self.written(self.out), self.written(self.err)
+        return Ran(code, report, said, None, left=left, modes=modes, late=late)
 
     def talk(self, words, files, data, turns, cuts):
         """Runs it over the two FIFOs, whose other end this is. In each turn so many bytes have

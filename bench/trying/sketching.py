@@ -114,7 +114,7 @@ def bytes_of(chance, it):
 def watch(chance, depth):
     """A sketch of a front of a log, or of another stream, and the log."""
     log, form = chance.legal(depth), chance.form(depth)
-    known = chance.choice((0, len(log), chance.randint(0, len(log))))
+    known = chance.choice((0, len(log), *(chance.randint(0, len(log)) for _ in range(3))))
     stream, at, before = log, "0", log[:known]
     ways = ("grown", "grown", "behind", "behind", "from", "short", "rotated", "above")
     way = chance.choice(ways)
@@ -173,4 +173,5 @@ def filled(chance, updates, depth):
 
 
 def every(chance, size):
-    return chance.choice(("-", "1", "2", "7", "512", str(max(size, 1)), str(size + 1))).encode()
+    near = str(max(size, 1)), str(size + 1)
+    return chance.choice(("-", "1", "1", "2", "2", "3", "7", "512", *near)).encode()

@@ -120,6 +120,7 @@ class Trial:
 
     def with_files(self, chance, case, files, over_fifos):
         """Compares a run and all files behind it, and what it stored before its end."""
+        self.program.makes_files(True)
         outcome = self.group.run(case, files, lambda name: made_beside(case.folders, name))
         ends = [FROM.encode(), TO.encode()]
         if over_fifos and outcome.to is not None and case.words[-2:] == ends:
@@ -133,7 +134,8 @@ class Trial:
             ran = self.program.run(case.words, files, case=case)
         # TO is one of the files that are left.
         ran = ran._replace(to=outcome.to)
-        return outcome, [*compared(outcome, ran), *left_otherwise(outcome.left, ran)]
+        found = [*compared(outcome, ran), *left_otherwise(outcome.left, ran)]
+        return outcome, found + [*seen_by_others(case, files, outcome, ran)]
 
     def over_fifos(self, chance, case, outcome):
         size = len(case.data)
@@ -180,6 +182,17 @@ def left_otherwise(wanted, ran):
             yield f"{name} has {in_hex(ran.left.get(name))}, not {in_hex(wanted.get(name))}"
     if ran.late:
         yield f"{ran.late} didn't come before more of the stream"
+
+
+def seen_by_others(case, files, outcome, ran):
+    """The sketch and its lock, where the run made them and others than their owner may use them."""
+    made = [name for name in outcome.left if name.endswith(".lock") and name not in files]
+    if outcome.stored:
+        made.append(case.words[1].decode())
+    for name in made:
+        # A sketch that has what it had may be the same file.
+        if files.get(name) != ran.left.get(name) and ran.modes.get(name, 0o600) != 0o600:
+            yield f"{name} has the mode {ran.modes[name]:o}, not 600"
 
 
 def in_hex(data):
