@@ -2,6 +2,7 @@ pub mod Examples
 pub mod Fields
 pub mod Joining
 pub mod Reading
+pub mod Risen
 pub mod Seats
 pub mod Sketches
 pub mod Standing

@@ -32,6 +32,7 @@
 //! | `Sketches` | what a sketch has, its numbers in their order, the fields of its file |
 //! | `Joining` | what a sketch and the next part add up to, and why a part is not added |
 //! | `Reading` | what reading answers, and the sketch or the fault that this is |
+//! | `Risen` | which count of faults rose where a call over files answers that a port failed |
 //! | `Examples` | what the examples work out |
 //!
 //! [`examples`] has two files with their digests, and the first faults of others.
@@ -48,6 +49,7 @@ mod parts;
 mod reading;
 mod seat;
 mod sketch;
+mod status;
 mod unlike;
 mod updating;
 mod writing;
@@ -58,5 +60,6 @@ pub use kind::SeatKind;
 pub use parts::Parts;
 pub use seat::SketchSeat;
 pub use sketch::Sketch;
+pub use status::{SketchPort, SketchStatus};
 pub use unlike::Unlike;
 pub use updating::MOST_UPDATES;
