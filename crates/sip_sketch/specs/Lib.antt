@@ -1,6 +1,8 @@
 pub mod Examples
 pub mod Fields
+pub mod Files
 pub mod Joining
+pub mod MemoryFiles
 pub mod Reading
 pub mod Risen
 pub mod Seats

@@ -33,6 +33,7 @@
 //! | `Joining` | what a sketch and the next part add up to, and why a part is not added |
 //! | `Reading` | what reading answers, and the sketch or the fault that this is |
 //! | `Risen` | which count of faults rose where a call over files answers that a port failed |
+//! | `Files`, `MemoryFiles` | what is loaded of files that are read whole; what those in memory have |
 //! | `Examples` | what the examples work out |
 //!
 //! [`examples`] has two files with their digests, and the first faults of others.
@@ -43,8 +44,10 @@ mod beginning;
 mod cursor;
 pub mod examples;
 mod fault;
+mod files;
 mod kind;
 pub mod laws;
+mod memory_files;
 mod parts;
 mod reading;
 mod seat;
@@ -56,7 +59,9 @@ mod writing;
 
 pub use beginning::BeginFault;
 pub use fault::SketchFault;
+pub use files::SketchFiles;
 pub use kind::SeatKind;
+pub use memory_files::MemoryFiles;
 pub use parts::Parts;
 pub use seat::SketchSeat;
 pub use sketch::Sketch;

@@ -27,10 +27,7 @@ pub enum SketchStatus {
     /// There is a file already, and be it an empty one.
     Exists,
     /// The file of this part is no sketch from this byte on, or ends there; a missing one at 0.
-    BadSketch {
-        part: u32,
-        offset: u64,
-    },
+    BadSketch { part: u32, offset: u64 },
     /// The seed has fewer than 32 bytes.
     BadSeed,
     /// Eight words of the seed in turn gave no challenge.
@@ -38,34 +35,19 @@ pub enum SketchStatus {
     /// Another process has the sketch.
     Busy,
     /// Record `at`, by the sketch's own count, is the first that is not legal.
-    BadStream {
-        at: u64,
-        why: Why,
-    },
+    BadStream { at: u64, why: Why },
     /// The stream cannot begin at this record of the sketch: it has `records`, or it is the sum of
     /// several parts.
-    BadStart {
-        records: u64,
-        is_sum: bool,
-    },
+    BadStart { records: u64, is_sum: bool },
     /// The stream ends at this record, by the sketch's own count, before the first one that the
     /// sketch has not yet.
-    Behind {
-        at: u64,
-    },
+    Behind { at: u64 },
     /// This part is not added to those before it, or the sum is not stored.
-    Unlike {
-        part: u32,
-        why: Unlike,
-    },
+    Unlike { part: u32, why: Unlike },
     /// Reading this port failed.
-    ReadFault {
-        port: SketchPort,
-    },
+    ReadFault { port: SketchPort },
     /// Writing this port failed.
-    WriteFault {
-        port: SketchPort,
-    },
+    WriteFault { port: SketchPort },
     /// Memory ran out.
     OutOfMemory,
 }
