@@ -23,3 +23,6 @@ pub mod Grown
 pub mod Added
 pub mod Alike
 pub mod Summing
+pub mod Causes
+pub mod Crashes
+pub mod Founded

@@ -1,3 +1,4 @@
+pub mod Beginnings
 pub mod Examples
 pub mod Fields
 pub mod Files
