@@ -6,7 +6,9 @@ pub mod Joining
 pub mod MemoryFiles
 pub mod Reading
 pub mod Risen
+pub mod SeatLines
 pub mod Seats
+pub mod Showing
 pub mod Sketches
 pub mod Standing
 pub mod inside

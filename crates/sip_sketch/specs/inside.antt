@@ -3,6 +3,7 @@ pub mod Beginning
 pub mod Causes
 pub mod Founding
 pub mod Heads
+pub mod Loading
 pub mod Raising
 pub mod Spelling
 pub mod Storing

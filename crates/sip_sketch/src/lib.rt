@@ -22,6 +22,7 @@
 //! - [`begin`] stores such a sketch in the file of a desk where that is missing, and leaves each
 //!   other file as it is; its status says which. Whenever a crash comes, the file is missing or
 //!   whole ([`laws::a_begin_leaves_whole_files`]).
+//! - [`seats`] writes the lines of a sketch, which have none of its secrets.
 //! - [`Sketch::write`] writes that file, and takes memory only where there is less room than the
 //!   file has bytes ([`Sketch::size`]).
 //!
@@ -36,6 +37,7 @@
 //! | `Joining` | what a sketch and the next part add up to, and why a part is not added |
 //! | `Reading` | what reading answers, and the sketch or the fault that this is |
 //! | `Beginnings` | what each ending of [`begin`] says of its desk and its seed |
+//! | `Showing`, `SeatLines` | what each ending of [`seats`] says of its file and its report; the lines |
 //! | `Risen` | which count of faults rose where a call over files answers that a port failed |
 //! | `Files`, `MemoryFiles` | what is loaded of files that are read whole; what those in memory have |
 //! | `Examples` | what the examples work out |
@@ -52,10 +54,12 @@ mod files;
 mod founding;
 mod kind;
 pub mod laws;
+mod loading;
 mod memory_files;
 mod parts;
 mod reading;
 mod seat;
+mod showing;
 mod sketch;
 mod status;
 mod storing;
@@ -71,6 +75,7 @@ pub use kind::SeatKind;
 pub use memory_files::MemoryFiles;
 pub use parts::Parts;
 pub use seat::SketchSeat;
+pub use showing::seats;
 pub use sketch::Sketch;
 pub use status::{SketchPort, SketchStatus};
 pub use unlike::Unlike;

@@ -1,6 +1,6 @@
 //! What the file of a sketch is, byte by byte: what is read and written again, and the first fault
-//! of others; what a sketch has that began and grew, and how it begins over a desk; and what the
-//! parts of a stream add up to.
+//! of others; what a sketch has that began and grew, how it begins over a desk, and by which lines
+//! it is shown; and what the parts of a stream add up to.
 //! Nothing but tests stands here, so that this layer is proved once.
 #![tactic(auto)]
 
@@ -12,3 +12,5 @@ mod begin_tests;
 mod file_tests;
 #[cfg(test)]
 mod growing_tests;
+#[cfg(test)]
+mod showing_tests;
