@@ -5,7 +5,7 @@ pub mod HeadFields
 pub mod Closing
 pub mod SeatFields
 pub mod Fronts
-pub mod Seats
+pub mod SeatLists
 pub mod Apart
 pub mod Putting
 pub mod Whole
@@ -23,3 +23,7 @@ pub mod Grown
 pub mod Added
 pub mod Alike
 pub mod Summing
+pub mod Causes
+pub mod Crashes
+pub mod Founded
+pub mod Loaded

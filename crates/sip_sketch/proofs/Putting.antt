@@ -15,7 +15,7 @@ use Rattle.sip_sketch.specs.inside.Heads.{head_numbers}
 use Rattle.sip_sketch.specs.inside.Spelling.{Puts}
 use Rattle.sip_sketch.proofs.Closing.{seats_behind}
 use Rattle.sip_sketch.proofs.HeadFields.{behind_magic}
-use Rattle.sip_sketch.proofs.Seats.{numbers_on, seats_at}
+use Rattle.sip_sketch.proofs.SeatLists.{numbers_on, seats_at}
 use Rattle.sip_sketch.proofs.Steps.{elements_at}
 
 pub puts_on : {a b c : List ℕ} {f g h : Fields} {xs ys : List ℕ} → Puts a b f g xs

@@ -153,3 +153,7 @@ sketch_from s head fits = record {
   where
     magic_value : (b : ℕ) → b < 256 → IsValue (byte b b) b
     magic_value b room = ranged_value Byte b b b (omega arith) (omega arith) room
+
+-- there are 1 to 64 seats
+pub few_seats : (s : SketchValues) → IsSketch s → (1 ≤ length s.seats) × (length s.seats ≤ most_seats)
+few_seats s is = ranged_from Byte 1 most_seats (length s.seats) (head_from s is).seats

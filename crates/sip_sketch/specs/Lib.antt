@@ -1,8 +1,14 @@
+pub mod Beginnings
 pub mod Examples
 pub mod Fields
+pub mod Files
 pub mod Joining
+pub mod MemoryFiles
 pub mod Reading
+pub mod Risen
+pub mod SeatLines
 pub mod Seats
+pub mod Showing
 pub mod Sketches
 pub mod Standing
 pub mod inside

@@ -1,5 +1,9 @@
 pub mod Adding
 pub mod Beginning
+pub mod Causes
+pub mod Founding
 pub mod Heads
+pub mod Loading
 pub mod Raising
 pub mod Spelling
+pub mod Storing

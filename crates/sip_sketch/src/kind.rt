@@ -1,6 +1,7 @@
 //! What a seat of a sketch serves.
 
-ghost use Rattle.std.specs.Prelude.{◌≡◌, ◌≤◌};
+ghost use Rattle.std.specs.Prelude.{◌≡◌, ◌≤◌, length};
+ghost use Rattle.sip_sketch.specs.SeatLines.{kind_word};
 ghost use Rattle.sip_sketch.specs.Seats.{side_of};
 ghost use Rattle.sip_sketch.specs.Sketches.{code_of};
 
@@ -31,6 +32,21 @@ impl SeatKind {
             SeatKind::Products => 4,
             SeatKind::Heavy(Side::First) => 5,
             SeatKind::Heavy(Side::Second) => 6,
+        }
+    }
+
+    /// The word by which a seat of the kind is asked for, without a number.
+    pub fn word(self) -> &'static str
+        ensures word { result.now ≡ kind_word self }
+        ensures len { length result.now ≤ 8 }
+    {
+        match self {
+            SeatKind::Entries => "entries",
+            SeatKind::Sums(Side::First) => "sums:0",
+            SeatKind::Sums(Side::Second) => "sums:1",
+            SeatKind::Products => "products",
+            SeatKind::Heavy(Side::First) => "heavy:0",
+            SeatKind::Heavy(Side::Second) => "heavy:1",
         }
     }
 

@@ -1,8 +1,18 @@
-//! Laws of the file. These functions do nothing: each contract is a fact that holds.
+//! Laws of the file, and of crashes while it is stored. These functions do nothing: each contract is
+//! a fact that holds.
 
-ghost use Rattle.std.specs.Prelude.{◌≡◌, ◌<◌, ℕ, List, Ok, All};
+ghost use Rattle.std.specs.Prelude.{◌≡◌, ◌⊎◌, ◌<◌, ◌++◌, ℕ, List, [], ◌∷◌, Ok, All, Some, take};
+ghost use Rattle.std.specs.Prelude.{Contains};
+ghost use Rattle.std.specs.declared.option.Option.{Option};
+ghost use Rattle.sip_ports.specs.Desk.{may_hold};
+ghost use Rattle.sip_ports.specs.declared.port.TalkEvent.{TalkEvent};
+ghost use Rattle.sip_sketch.specs.Beginnings.{Begins, IsFirstFile, IsNew};
 ghost use Rattle.sip_sketch.specs.Fields.{AreValues, Fields, read, spelling};
 ghost use Rattle.sip_sketch.specs.Sketches.{IsSketch, SketchValues, numbers};
+ghost use Rattle.sip_sketch.specs.declared.kind.SeatKind.{SeatKind};
+ghost use Rattle.sip_sketch.specs.declared.parts.Parts.{Parts};
+ghost use Rattle.sip_sketch.specs.declared.status.SketchStatus.{SketchStatus};
+ghost use Rattle.sip_sketch.specs.declared.status.SketchStatus.TheVariants as statuses;
 
 /// Whatever the fields: what is read are values of the fields that spell the file, and the file
 /// that values of the fields spell is read as these.
@@ -18,4 +28,20 @@ pub fn reading_is_exact()
 pub fn numbers_tell_sketches_apart()
     ensures { (one other : SketchValues) → IsSketch one → IsSketch other
         → numbers one ≡ numbers other → one ≡ other }
+{}
+
+/// Whenever a crash comes while a sketch is begun, the file has what it might have before, or it is
+/// the whole file of the call, which the sketch of the empty stream has. Behind `Wrote` it is that.
+pub fn a_begin_leaves_whole_files()
+    ensures crash { (depth : ℕ) (part : Parts) (kinds : List SeatKind)
+        (left start : Option (List ℕ)) (talk events : List TalkEvent) (status : SketchStatus)
+        (n : ℕ) (content : Option (List ℕ))
+        → Begins depth part kinds left start (Some talk) (Some (talk ++ events)) status
+        → Contains (may_hold start (talk ++ take n events)) content
+        → Contains (may_hold start talk) content ⊎ IsNew depth part kinds left content }
+    ensures kept { (depth : ℕ) (part : Parts) (kinds : List SeatKind)
+        (left start : Option (List ℕ)) (talk now : List TalkEvent)
+        → Begins depth part kinds left start (Some talk) (Some now) statuses.Wrote
+        → (file : List ℕ) × IsFirstFile depth part kinds left file
+        × (may_hold start now ≡ Some file ∷ []) }
 {}

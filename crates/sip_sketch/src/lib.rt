@@ -19,6 +19,10 @@
 //! - [`Sketch::absorb`] adds the next part of a stream, which another collector kept: where the one
 //!   sketch stands for a stream and the other for one behind it, the sum stands for both. It says
 //!   why a part is not added, and leaves the sketch as it was then.
+//! - [`begin`] stores such a sketch in the file of a desk where that is missing, and leaves each
+//!   other file as it is; its status says which. Whenever a crash comes, the file is missing or
+//!   whole ([`laws::a_begin_leaves_whole_files`]).
+//! - [`seats`] writes the lines of a sketch, which have none of its secrets.
 //! - [`Sketch::write`] writes that file, and takes memory only where there is less room than the
 //!   file has bytes ([`Sketch::size`]).
 //!
@@ -32,6 +36,10 @@
 //! | `Sketches` | what a sketch has, its numbers in their order, the fields of its file |
 //! | `Joining` | what a sketch and the next part add up to, and why a part is not added |
 //! | `Reading` | what reading answers, and the sketch or the fault that this is |
+//! | `Beginnings` | what each ending of [`begin`] says of its desk and its seed |
+//! | `Showing`, `SeatLines` | what each ending of [`seats`] says of its file and its report; the lines |
+//! | `Risen` | which count of faults rose where a call over files answers that a port failed |
+//! | `Files`, `MemoryFiles` | what is loaded of files that are read whole; what those in memory have |
 //! | `Examples` | what the examples work out |
 //!
 //! [`examples`] has two files with their digests, and the first faults of others.
@@ -42,21 +50,33 @@ mod beginning;
 mod cursor;
 pub mod examples;
 mod fault;
+mod files;
+mod founding;
 mod kind;
 pub mod laws;
+mod loading;
+mod memory_files;
 mod parts;
 mod reading;
 mod seat;
+mod showing;
 mod sketch;
+mod status;
+mod storing;
 mod unlike;
 mod updating;
 mod writing;
 
 pub use beginning::BeginFault;
 pub use fault::SketchFault;
+pub use files::SketchFiles;
+pub use founding::begin;
 pub use kind::SeatKind;
+pub use memory_files::MemoryFiles;
 pub use parts::Parts;
 pub use seat::SketchSeat;
+pub use showing::seats;
 pub use sketch::Sketch;
+pub use status::{SketchPort, SketchStatus};
 pub use unlike::Unlike;
 pub use updating::MOST_UPDATES;

@@ -1,6 +1,7 @@
 //! What a verifier keeps of a stream.
 
-ghost use Rattle.std.specs.Prelude.{◌≡◌};
+ghost use Rattle.std.specs.Prelude.{◌≡◌, ◌≤◌, length};
+ghost use Rattle.sip_sketch.specs.Sketches.{most_seats};
 
 use crate::{Parts, SketchSeat};
 use sip_vector::{Depth, Tally};
@@ -57,9 +58,10 @@ impl Sketch {
         self.tally
     }
 
-    /// The seats, in the order in which they were asked for.
+    /// The seats, in the order in which they were asked for: 1 to 64.
     pub fn seats(&self) -> &[SketchSeat]
-        ensures { result.now ≡ self.now.seats }
+        ensures seats { result.now ≡ self.now.seats }
+        ensures most { length result.now ≤ most_seats }
     {
         &self.seats
     }

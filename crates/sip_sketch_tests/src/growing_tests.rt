@@ -12,10 +12,10 @@ const BEGUN: [u8; 32] = [
     0x24, 0x61, 0xa5, 0xbb, 0xf3, 0xda, 0xac, 0x5a, 0xb6, 0x01, 0x51, 0x71, 0x28, 0x92, 0xe9, 0xe5,
 ];
 
-const KINDS: [SeatKind; 2] = [SeatKind::Entries, SeatKind::Sums(Side::First)];
+pub(crate) const KINDS: [SeatKind; 2] = [SeatKind::Entries, SeatKind::Sums(Side::First)];
 
 // Its file: no weight, no record, no fingerprint, and no number in a seat.
-fn begun() -> [u8; 152] {
+pub(crate) fn begun() -> [u8; 152] {
     let mut bytes = WATCHED;
     bytes[25] = 0;
     bytes[41] = 0;

@@ -4,7 +4,7 @@ use Rattle.std.proofs.lemmas.List.{length-append}
 use Rattle.sip_sketch.specs.Reading.{Passes}
 use Rattle.sip_sketch.specs.Sketches.{seat_numbers, seats_fields, second_of}
 use Rattle.sip_sketch.proofs.Steps.{passes_on, fault_behind}
-use Rattle.sip_sketch.proofs.Seats.{seats_at, numbers_on, blocks_on}
+use Rattle.sip_sketch.proofs.SeatLists.{seats_at, numbers_on, blocks_on}
 use Rattle.sip_sketch.proofs.reading.take_seats.Goals as goal
 
 pub returns-in_err-seat-clause-takes : goal.returns-in_err-seat-clause-takes
