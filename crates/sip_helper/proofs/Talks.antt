@@ -10,8 +10,8 @@ use Rattle.sip_helper.specs.declared.status.HelpStatus.TheVariants.{OutOfMemory}
 use Rattle.sip_wire.proofs.Longest.{spelling_at_most}
 use Rattle.sip_helper.specs.declared.status.HelpStatus.{HelpStatus}
 use Rattle.sip_helper.specs.inside.Measures.{most_turns}
-use Rattle.sip_helper.specs.inside.OneTurn.{StopsTurn, Taken}
-use Rattle.sip_helper.specs.Rules.{AreTurnsBy, EndsAs, IsTurnBy, TurnRules, ServesBy, Turn, after_turn_by, heard_by, state_after_by, turn_talk_by, turns_talk_by}
+use Rattle.sip_helper.specs.OneTurn.{StopsTurn, Taken}
+use Rattle.sip_helper.specs.Rules.{AreTurnsBy, EndsAs, IsTurnBy, TurnRules, ServesBy, ServesOn, Turn, after_turn_by, heard_by, state_after_by, turn_talk_by, turns_talk_by}
 
 -- ---- one more turn
 
@@ -39,21 +39,21 @@ module _ {S : Type 0} (r : TurnRules S) where
 -- ---- how far a talk is
 
 -- the turns so far, none of them a farewell, and the room that is left for the offset
-pub record UnderWay {S : Type 0} (r : TurnRules S) (left : S → ℕ) (first : S) (start now : Option (List TalkEvent)) (s : S) (offset : ℕ) : Type 0 where
+pub record UnderWay {S : Type 0} (r : TurnRules S) (left : S → ℕ) (first : S) (before : ℕ) (start now : Option (List TalkEvent)) (s : S) (offset : ℕ) : Type 0 where
   pub turns : List Turn
   pub are : AreTurnsBy r first turns
   pub state : s ≡ state_after_by r first turns
   pub going : r.is_done s ≡ false
   pub talk : GoesOn start now (turns_talk_by r first turns)
-  pub at : offset ≡ length (heard (turns_talk_by r first turns))
-  pub room : offset + longest_frame * left s ≤ longest_frame * most_turns
+  pub at : offset ≡ before + length (heard (turns_talk_by r first turns))
+  pub room : offset + longest_frame * left s ≤ before + longest_frame * most_turns
 
-module _ {S : Type 0} (r : TurnRules S) (left : S → ℕ) (first : S) (start : Option (List TalkEvent)) where
-  pub begins : r.is_done first ≡ false → left first ≤ most_turns → UnderWay r left first start start first 0
-  begins going few = record { turns = []; are = tt; state = refl; going = going; talk = GoesOn-refl start; at = refl; room = omega (arith, few) }
+module _ {S : Type 0} (r : TurnRules S) (left : S → ℕ) (first : S) (before : ℕ) (start : Option (List TalkEvent)) where
+  pub begins : r.is_done first ≡ false → left first ≤ most_turns → UnderWay r left first before start start first before
+  begins going few = record { turns = []; are = tt; state = refl; going = going; talk = GoesOn-refl start; at = omega arith; room = omega (arith, few) }
 
-  module _ (now new : Option (List TalkEvent)) (s : S) (offset : ℕ) (so : UnderWay r left first start now s offset) where
-    pub goes_on : (next : S) (got : List ℕ) (n : ℕ) → n ≡ length got → left next < left s → Taken r now new s next got → UnderWay r left first start new next (offset + n)
+  module _ (now new : Option (List TalkEvent)) (s : S) (offset : ℕ) (so : UnderWay r left first before start now s offset) where
+    pub goes_on : (next : S) (got : List ℕ) (n : ℕ) → n ≡ length got → left next < left s → Taken r now new s next got → UnderWay r left first before start new next (offset + n)
     goes_on next got n count fewer took =
         let t = took.turn in
         let here = turn_talk_by r (state_after_by r first so.turns) t in
@@ -76,14 +76,14 @@ module _ {S : Type 0} (r : TurnRules S) (left : S → ℕ) (first : S) (start : 
         }
 
     -- the talk ends
-    pub ends : (status : HelpStatus) → StopsTurn r now new s offset status → ServesBy r first start new status
+    pub ends : (status : HelpStatus) → StopsTurn r now new s offset status → ServesOn r first before start new status
     ends status stop = record {
       turns = so.turns;
       are = so.are;
       going = sym (ap r.is_done so.state) ∙ so.going;
       rest = stop.rest;
       talk = GoesOn-trans start now new (turns_talk_by r first so.turns) stop.rest so.talk stop.talk;
-      ends = subst (λ (x : S). EndsAs r x (length (heard (turns_talk_by r first so.turns))) stop.rest status) so.state (subst (λ (n : ℕ). EndsAs r s n stop.rest status) so.at stop.ends);
+      ends = subst (λ (x : S). EndsAs r x (before + length (heard (turns_talk_by r first so.turns))) stop.rest status) so.state (subst (λ (n : ℕ). EndsAs r s n stop.rest status) so.at stop.ends);
     }
 
   -- nothing was received: there was no memory for a frame

@@ -20,7 +20,7 @@ use Rattle.sip_wire.specs.Faults.{IsOfBytes}
 use Rattle.sip_wire.specs.Reading.{read_frame}
 use Rattle.sip_wire.specs.Spelling.{spelling}
 use Rattle.sip_helper.specs.declared.status.HelpStatus.TheVariants.{Served, BadFrame, PeerFault}
-use Rattle.sip_helper.specs.inside.OneTurn.{StopsTurn, Taken}
+use Rattle.sip_helper.specs.OneTurn.{StopsTurn, Taken}
 use Rattle.sip_helper.specs.KindRows.{out_of_turn}
 use Rattle.sip_helper.specs.Rules.{IsMessageBy, IsTurnBy, TurnRules, Turn, heard_by}
 use Rattle.sip_helper.specs.Statuses.{status_of_fault, status_of_stop}

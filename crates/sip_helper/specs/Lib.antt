@@ -1,6 +1,7 @@
 pub mod KindRows
 pub mod Kinds
 pub mod Hitters
+pub mod OneTurn
 pub mod Rules
 pub mod Serving
 pub mod Statuses

@@ -5,7 +5,7 @@
 -- reply that is owed then is sent, before more is received. It stops at a farewell, at bytes that
 -- are no frame, at a message out of turn, at the end of the link, or where the link fails or memory
 -- runs out.
-use Rattle.std.specs.Prelude.{◌≡◌, ◌≢◌, ◌⊎◌, ℕ, ◌<◌, Bool, false, IsTrue, List, [], ◌∷◌, ◌++◌}
+use Rattle.std.specs.Prelude.{◌≡◌, ◌≢◌, ◌⊎◌, ℕ, ◌+◌, ◌<◌, Bool, false, IsTrue, List, [], ◌∷◌, ◌++◌}
 use Rattle.std.specs.Prelude.{length, take, Option, Err}
 use Rattle.sip_ports.specs.declared.port.TalkEvent.{TalkEvent}
 use Rattle.sip_ports.specs.declared.port.TalkEvent.TheVariants.{Ended}
@@ -151,13 +151,18 @@ module _ {S : Type 0} (r : TurnRules S) where
   EndsAs s at rest PeerFault = IsCutShortBy s rest
   EndsAs s at rest OutOfMemory = IsCutShortBy s rest
 
-  -- The turns of a talk, none of them a farewell, and how it ends by a status.
-  pub record ServesBy (start : S) (old new : Option (List TalkEvent))
+  -- The turns of a talk from a state on, none of them a farewell, and how it ends by a status;
+  -- `before` is how many bytes were received until then.
+  pub record ServesOn (start : S) (before : ℕ) (old new : Option (List TalkEvent))
       (status : HelpStatus) : Type 0 where
     pub turns : List Turn
     pub are : AreTurnsBy start turns
     pub going : r.is_done (state_after_by start turns) ≡ false
     pub rest : List TalkEvent
     pub talk : GoesOn old new (turns_talk_by start turns ++ rest)
-    pub ends : EndsAs (state_after_by start turns) (length (heard (turns_talk_by start turns))) rest
-        status
+    pub ends : EndsAs (state_after_by start turns)
+        (before + length (heard (turns_talk_by start turns))) rest status
+
+  -- the same of a whole talk
+  abbrev pub ServesBy : S → Option (List TalkEvent) → Option (List TalkEvent) → HelpStatus → Type 0
+  ServesBy start = ServesOn start 0

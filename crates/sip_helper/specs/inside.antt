@@ -4,5 +4,4 @@ pub mod Answering
 pub mod Keeping
 pub mod Legal
 pub mod Measures
-pub mod OneTurn
 pub mod Starting

@@ -19,10 +19,9 @@ use crate::OutOfTurn;
 use crate::asked::{Answerer, QueryUnderWay};
 use crate::heard::Heard;
 use crate::vectors::{Vectors, Weights, grown, settled};
-use arrayvec::ArrayVec;
 use sip_ports::{PortStop, Sink};
 use sip_vector::{Depth, Query, Side, Update, Vector};
-use sip_wire::{MOST_QUERIES, MOST_ROWS, Message, Version};
+use sip_wire::{MOST_QUERIES, Message, Version};
 use std::alloc::Global;
 use std::marker::Model;
 
@@ -110,23 +109,6 @@ impl HelperCore {
         Ok(())
     }
 
-    fn add(&mut self, updates: &ArrayVec<Update, MOST_ROWS>) -> Result<(), OutOfTurn>
-        ensures turn { IsOk result ↔ IsTrue (is_allowed self.old (messages.Updates updates.now)) }
-        ensures ok { OnOk result ((refused : Bool)
-            × (self.new ≡ step self.old refused (messages.Updates updates.now))) }
-        ensures err { OnErr result (self.new ≡ self.old) }
-    {
-        let Some(depth) = self.heard.part() else {
-            return Err(OutOfTurn);
-        };
-        let Some(weights) = self.weights.with(depth, updates) else {
-            return Err(OutOfTurn);
-        };
-        self.vectors = grown(self.vectors.take(), updates);
-        self.weights = weights;
-        Ok(())
-    }
-
     fn end(&mut self) -> Result<(), OutOfTurn>
         ensures turn { IsOk result ↔ IsTrue (is_allowed self.old messages.EndStream) }
         ensures ok { OnOk result ((refused : Bool)
@@ -177,6 +159,30 @@ impl HelperCore {
         }
     }
 
+    /// Takes updates as [`hear`](HelperCore::hear) takes them of a frame, however many they are.
+    ///
+    /// # Errors
+    ///
+    /// `OutOfTurn` exactly where they may not come: none of them is added then.
+    pub fn hear_updates(&mut self, updates: &[Update]) -> Result<(), OutOfTurn>
+        requires live { self.old.spent ≡ false }
+        ensures turn { IsOk result
+            ↔ IsTrue (is_allowed self.old (messages.Updates (record { items = updates.now }))) }
+        ensures heard { OnOk result ((refused : Bool)
+            × (self.new ≡ step self.old refused (messages.Updates (record { items = updates.now })))) }
+        ensures same { OnErr result (self.new ≡ self.old) }
+    {
+        let Some(depth) = self.heard.part() else {
+            return Err(OutOfTurn);
+        };
+        let Some(weights) = self.weights.with(depth, updates) else {
+            return Err(OutOfTurn);
+        };
+        self.vectors = grown(self.vectors.take(), updates);
+        self.weights = weights;
+        Ok(())
+    }
+
     /// Takes a message, where it may come: the state is the next one then, and the reply that is
     /// owed, if one is, may be sent.
     ///
@@ -194,7 +200,7 @@ impl HelperCore {
     {
         match message {
             Message::Open { version, depth } => self.open_talk(*version, *depth),
-            Message::Updates(updates) => self.add(updates),
+            Message::Updates(updates) => self.hear_updates(updates),
             Message::EndStream => self.end(),
             Message::Query(query) => self.ask(*query),
             Message::Reveal { challenge } => self.reveal(*challenge),

@@ -38,7 +38,9 @@
 //!
 //! What answers another kind of talk behind the same stream, as of lookups, implements [`Helps`]
 //! over a [`HelperCore`]: which frame is awaited, which message may come, and what is owed then.
-//! [`talk`] receives the frames, refuses what is out of turn and says how it ended.
+//! [`talk`] receives the frames, refuses what is out of turn and says how it ended. A talk that
+//! begins by other turns takes these one by one ([`take_turn`]), and goes on from there
+//! ([`talk_on`]).
 //!
 //! # How a kind is added
 //!
@@ -71,5 +73,5 @@ pub use helper::HelperCore;
 pub use refusal::{WANT_OF_MEMORY, put_refusal};
 pub use serving::serve;
 pub use status::HelpStatus;
-pub use talking::{Helps, talk};
+pub use talking::{Helps, take_turn, talk, talk_on};
 pub use turn::OutOfTurn;

@@ -5,9 +5,9 @@ ghost use Rattle.sip_ports.specs.Ports.{HasCause, Lasts, Rose, SendsWhole};
 ghost use Rattle.sip_wire.specs.declared.message.Message.TheVariants as messages;
 ghost use Rattle.sip_wire.specs.Frames.{frame_bytes};
 ghost use Rattle.sip_wire.specs.Spelling.{spelling};
-ghost use Rattle.sip_helper.specs.inside.Measures.{most_turns};
-ghost use Rattle.sip_helper.specs.inside.OneTurn.{TakesTurn};
-ghost use Rattle.sip_helper.specs.Rules.{ServesBy};
+ghost use Rattle.sip_helper.specs.inside.Measures.{most_received, most_turns};
+ghost use Rattle.sip_helper.specs.OneTurn.{TakesTurn};
+ghost use Rattle.sip_helper.specs.Rules.{ServesBy, ServesOn};
 
 use crate::refusal::OUT_OF_TURN;
 use crate::{HelpStatus, OutOfTurn};
@@ -106,8 +106,13 @@ fn refuse<L: Link>(version: Version, link: &mut L) -> Result<(), PortStop>
 }
 
 /// Receives one frame, hears its message and sends the reply that is owed. The message of the frame
-/// before gives its room. The status says why the talk is over.
-fn take_turn<H: Helps, L: Link>(
+/// before gives its room. `offset` is how many bytes of the talk were received before.
+///
+/// # Errors
+///
+/// Why the talk is over, as of [`talk`]: `Served` where the message was the farewell. What the
+/// frame has then is what was received of this turn.
+pub fn take_turn<H: Helps, L: Link>(
     helper: &mut H,
     link: &mut L,
     frame: &mut Frame,
@@ -145,16 +150,47 @@ fn take_turn<H: Helps, L: Link>(
     Ok(())
 }
 
-/// Hears a talk and answers, until a farewell.
+/// Goes on with a talk until a farewell, from a state in which it stands: some of it may have been
+/// heard, turn by turn ([`take_turn`]), and `offset` bytes were received so far.
 ///
 /// Each reply that is owed goes out before the next frame is taken. A message out of turn is
 /// answered by a refusal, and ends the talk, and so is a query of a kind that is not built; a frame
 /// without a spelling ends it with no answer. The loop ends, since each turn but a farewell leaves
 /// fewer turns.
 ///
+/// It takes no memory but what the helper takes: `OutOfMemory` comes only where the link's count of
+/// wants rose, since want of memory for an answer is an answer to the verifier.
+pub fn talk_on<H: Helps + Drop, L: Link>(
+    helper: H,
+    link: &mut L,
+    frame: &mut Frame,
+    offset: u64,
+) -> HelpStatus
+    requires live { IsTrue (H.is_live helper) }
+    requires going { H.rules.is_done helper ≡ false }
+    requires few { H.turns_left helper ≤ most_turns }
+    requires short { offset ≤ most_received }
+    ensures serves { ServesOn H.rules helper offset (L.talk link.old) (L.talk link.new) result }
+    ensures cause { result ≡ HelpStatus.PeerFault
+        → Rose (L.faults link.old) (L.faults link.new) }
+    ensures memory { result ≡ HelpStatus.OutOfMemory
+        → Rose (L.wants link.old) (L.wants link.new) }
+    ensures lasts { Lasts L.faults L.wants L.is_sure link.old link.new }
+{
+    let mut helper = helper;
+    let mut offset = offset;
+    loop {
+        if let Err(status) = take_turn(&mut helper, link, frame, offset) {
+            return status;
+        }
+        offset += frame.bytes().len() as u64;
+    }
+}
+
+/// Hears a talk and answers, until a farewell, as [`talk_on`] does from its begin on.
+///
 /// The memory for the frame is taken first. Where that is refused the link is left alone; from then
-/// on `OutOfMemory` comes only where the link's count of wants rose, since want of memory for an
-/// answer is an answer to the verifier.
+/// on `OutOfMemory` comes only where the link's count of wants rose.
 pub fn talk<H: Helps + Drop, L: Link>(helper: H, alloc: Global, link: &mut L) -> HelpStatus
     requires live { IsTrue (H.is_live helper) }
     requires going { H.rules.is_done helper ≡ false }
@@ -169,12 +205,5 @@ pub fn talk<H: Helps + Drop, L: Link>(helper: H, alloc: Global, link: &mut L) ->
     let Ok(mut frame) = Frame::new(alloc) else {
         return HelpStatus::OutOfMemory;
     };
-    let mut helper = helper;
-    let mut offset = 0;
-    loop {
-        if let Err(status) = take_turn(&mut helper, link, &mut frame, offset) {
-            return status;
-        }
-        offset += frame.bytes().len() as u64;
-    }
+    talk_on(helper, link, &mut frame, 0)
 }

@@ -28,3 +28,7 @@ turns_left s =
 -- few questions around each query
 abbrev pub most_turns : ℕ
 most_turns = 2 ^ 32
+
+-- how many bytes of a talk may have been received before the turns that are left
+abbrev pub most_received : ℕ
+most_received = 2 ^ 63

@@ -1,4 +1,4 @@
--- What one turn does on a link.
+-- What one turn does on a link: it is taken whole, and its reply sent, or it stops the talk.
 use Rattle.std.specs.Prelude.{◌≡◌, ℕ, false, List, Option, Result, Ok, Err}
 use Rattle.sip_ports.specs.declared.port.TalkEvent.{TalkEvent}
 use Rattle.sip_ports.specs.Ports.{GoesOn}
@@ -23,6 +23,8 @@ module _ {S : Type 0} (r : TurnRules S) where
     pub talk : GoesOn old new rest
     pub ends : EndsAs r s at rest status
 
+  -- by a state, the state behind the turn, how many bytes were received before it, and the bytes that
+  -- its frame has
   abbrev pub TakesTurn : Option (List TalkEvent) → Option (List TalkEvent) → S → S → ℕ → List ℕ
       → Result Unit HelpStatus → Type 0
   TakesTurn old new s next at got (Ok _) = Taken old new s next got
