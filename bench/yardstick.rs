@@ -7,6 +7,7 @@ mod plain;
 use plain::blocks::Seat;
 use plain::field::{of, plus};
 use plain::lines::Writer;
+use plain::many::Many;
 use plain::moments::{Check, Poly, Prover};
 use plain::siblings::Tables;
 use plain::streams::{Made, NARROW, Reader, Update, WIDE};
@@ -25,6 +26,8 @@ const MADE_SEED: u64 = 7;
 const BLOCK: usize = 512;
 const BLOCKS: usize = 1000;
 const READ: usize = 200;
+/// How many blocks several numbers get.
+const BLOCKS_OF_MANY: usize = 200;
 /// How many updates a vector gets, how many queries it is asked, and the last item of each, which begins at item 0.
 const UPDATES: u64 = 1_000_000;
 const QUERIES: usize = 5;
@@ -46,7 +49,12 @@ impl Generator {
 }
 
 fn seat(depth: u32) -> Seat {
-    let mut generator = Generator(SEAT_SEED);
+    seat_of(0, depth)
+}
+
+/// The seat of one of several numbers: number 0 has that of `seat`.
+fn seat_of(number: u64, depth: u32) -> Seat {
+    let mut generator = Generator(SEAT_SEED + number);
     (0..depth).map(|_| of(generator.next())).collect()
 }
 
@@ -96,6 +104,20 @@ fn running(name: &str, depth: u32, update_all: impl Fn(&Seat, u64, &[Update]) ->
         time = time.min(spent);
     }
     line(name, depth, BLOCK as u64, time, value);
+}
+
+/// Blocks of updates, each for so many numbers. The least time of a block is taken.
+fn many<M: Many>(name: &str, depth: u32, count: u64) {
+    let mut numbers = M::of((0..count).map(|number| seat_of(number, depth)).collect());
+    let mut generator = Generator(STREAM_SEED);
+    let mut block = [Update::default(); BLOCK];
+    let mut time = Duration::MAX;
+    for _ in 0..BLOCKS_OF_MANY {
+        block.fill_with(|| generator.update(depth));
+        let (spent, ()) = least(1, || numbers.update_all(&block));
+        time = time.min(spent);
+    }
+    line(name, depth, BLOCK as u64 * count, time, numbers.values().iter().fold(0, |sum, value| sum.wrapping_add(*value)));
 }
 
 /// The bytes of a made stream, in the form that `put` writes.
@@ -239,6 +261,12 @@ fn part<D: Design>(name: &str, depth: u32) {
         "root" => running(name, depth, D::root),
         "point" => running(name, depth, D::point),
         "augroot" => running(name, depth, D::augroot),
+        "root16" => many::<D::Roots>(name, depth, 16),
+        "root64" => many::<D::Roots>(name, depth, 64),
+        "point16" => many::<D::Points>(name, depth, 16),
+        "point64" => many::<D::Points>(name, depth, 64),
+        "augroot16" => many::<D::AugRoots>(name, depth, 16),
+        "augroot64" => many::<D::AugRoots>(name, depth, 64),
         "records" if depth > 32 => records::<WIDE>(depth),
         "records" => records::<NARROW>(depth),
         "text" => text::<D>(depth),

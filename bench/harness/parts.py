@@ -18,6 +18,9 @@ BESIDE = {
     "siblings": "vector",
 }
 
+# The same blocks for several numbers, each with challenges of its own. They are not counted.
+MANY = tuple(f"{number}{count}" for number in ("root", "point", "augroot") for count in (16, 64))
+
 # The helper's end of a moment, of a million updates of 1 or as many as leave room for it. They are not counted.
 MOMENTS = ("moment3", "moment8")
 
@@ -44,18 +47,21 @@ class Line:
 def measure(programs, settings, work):
     programs = programs.parts()
     records = Table("parts", "ns a record, and callgrind's instructions/mispredictions", programs)
+    many = Table("several numbers", "ns a record and number", programs)
     queries = Table("siblings of one query, a million updates", "ms, and millions of instructions/mispredictions", programs)
     moments = Table("polynomials of one moment", "ms", programs)
     checksums = {}
     for _ in range(settings.rounds):
-        for part in [*BESIDE, *MOMENTS]:
+        for part in [*BESIDE, *MANY, *MOMENTS]:
             for depth in settings.depths:
                 for program, words in programs.items():
                     line = Line(words, part, depth, work)
                     checksum = checksums.setdefault((part, depth), line.checksum)
                     if line.checksum != checksum:
                         raise SystemExit(f"{program} computes {line.checksum} in {part}-{depth}, and not {checksum}")
-                    if part == "siblings":
+                    if part in MANY:
+                        many.saw(f"{part} {depth}", program, line.nanoseconds / line.count)
+                    elif part == "siblings":
                         queries.saw(f"depth {depth}", program, line.nanoseconds / 1e6)
                     elif part in MOMENTS:
                         moments.saw(f"{part} {depth}", program, line.nanoseconds / 1e6)
@@ -71,9 +77,10 @@ def measure(programs, settings, work):
                     else:
                         records.note(f"{part} {depth}", f"{program} count", counts)
     records.show()
+    many.show()
     queries.show()
     moments.show()
-    return records.above + queries.above + moments.above
+    return records.above + many.above + queries.above + moments.above
 
 
 def counts_of(words, part, depth, work):

@@ -50,9 +50,13 @@ pub fn folded_once(x: u64) -> i64 {
     ((x & P) + (x >> 61)) as i64
 }
 
-/// The residue of a sum whose absolute value is below 2^120.
-pub fn of_wide(sum: i128) -> u64 {
-    let sum = (sum + (i128::from(P) << 64)) as u128;
+/// The residue of a number of 128 bits.
+pub fn of_wide_unsigned(sum: u128) -> u64 {
     let (low, middle, high) = (sum as u64 & P, (sum >> 61) as u64 & P, (sum >> 122) as u64);
     of(low + middle + high)
+}
+
+/// The residue of a sum whose absolute value is below 2^120.
+pub fn of_wide(sum: i128) -> u64 {
+    of_wide_unsigned((sum + (i128::from(P) << 64)) as u128)
 }

@@ -13,6 +13,7 @@ pub mod hitters;
 pub mod interval;
 pub mod lines;
 pub mod lookups;
+pub mod many;
 pub mod moments;
 pub mod products;
 pub mod questions;
@@ -24,6 +25,7 @@ pub mod vector;
 pub mod verifier;
 
 use blocks::Seat;
+use many::{KeptProducts, KeptSteps, Many, OneByOne};
 use products::{Lazy, Products, Reduced};
 use siblings::Tables;
 use std::io::Result;
@@ -34,6 +36,11 @@ use vector::{Entry, Gathering, PackedVector, SortedVector};
 pub trait Design {
     /// One side's vector.
     type Vector: Gathering;
+
+    /// Several roots, extensions and augmented roots.
+    type Roots: Many;
+    type Points: Many;
+    type AugRoots: Many;
 
     /// The sums of products of a round polynomial.
     type Products: Products;
@@ -61,6 +68,9 @@ pub struct Plain;
 
 impl Design for Plain {
     type Vector = SortedVector;
+    type Roots = OneByOne<many::Root>;
+    type Points = OneByOne<many::Point>;
+    type AugRoots = OneByOne<many::AugRoot>;
     type Products = Reduced;
 
     const FRAMES: usize = 1;
@@ -90,6 +100,9 @@ pub struct Limit;
 
 impl Design for Limit {
     type Vector = PackedVector;
+    type Roots = KeptProducts<many::Root>;
+    type Points = KeptProducts<many::Point>;
+    type AugRoots = KeptSteps;
     type Products = Lazy;
 
     const FRAMES: usize = 8;

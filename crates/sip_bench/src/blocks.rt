@@ -10,7 +10,7 @@ use std::io;
 use std::time::{Clock, Duration, Instant};
 
 /// How many updates a block has: those of a full frame.
-const BLOCK: usize = 512;
+pub(crate) const BLOCK: usize = 512;
 /// How many blocks a number gets. 8 times as many updates are below 2^30, the limit of an augmented
 /// root.
 const BLOCKS: u64 = 1000;
@@ -23,7 +23,7 @@ const NOTHING: Update = Update {
 };
 
 /// The next block of the stream.
-fn next_block(stream: &mut Generator, depth: Depth) -> [Update; BLOCK]
+pub(crate) fn next_block(stream: &mut Generator, depth: Depth) -> [Update; BLOCK]
     ensures long { length result ≡ 512 }
     ensures items { All (λ u. u.item < 2 ^ depth) result }
     ensures deltas { All (λ u. nat_abs u.delta ≤ 8) result }

@@ -9,6 +9,7 @@
 mod blocks;
 mod held;
 mod line;
+mod many;
 mod moments;
 mod stream;
 mod streams;
@@ -33,6 +34,12 @@ fn line_of(clock: &impl Clock, alloc: Global, word: &str) -> io::Result<Line> {
         "root" => blocks::root(clock, depth),
         "point" => blocks::point(clock, depth),
         "augroot" => blocks::augroot(clock, depth),
+        "root16" => many::roots(clock, alloc, Part::Roots16, depth, 16),
+        "root64" => many::roots(clock, alloc, Part::Roots64, depth, 64),
+        "point16" => many::points(clock, alloc, Part::Points16, depth, 16),
+        "point64" => many::points(clock, alloc, Part::Points64, depth, 64),
+        "augroot16" => many::augroots(clock, alloc, Part::AugRoots16, depth, 16),
+        "augroot64" => many::augroots(clock, alloc, Part::AugRoots64, depth, 64),
         "recordbytes" => streams::bytes(alloc, Part::RecordBytes, depth, Form::made(depth)),
         "records" => streams::read(clock, alloc, Part::Records, depth, Form::made(depth)),
         "textbytes" => streams::bytes(alloc, Part::TextBytes, depth, Form::Text),

@@ -44,7 +44,17 @@ impl Generator {
 pub(crate) fn seat(depth: Depth) -> Seat<M61, CAP>
     ensures { length result ≡ depth }
 {
-    let mut generator = Generator { state: 2 };
+    seat_of(0, depth)
+}
+
+/// The seat of one of several numbers, each of which has challenges of its own: number 0 has those
+/// of [`seat`].
+pub(crate) fn seat_of(number: u64, depth: Depth) -> Seat<M61, CAP>
+    ensures { length result ≡ depth }
+{
+    let mut generator = Generator {
+        state: number.wrapping_add(2),
+    };
     let mut challenges = [M61::of(0); CAP];
     for challenge in &mut challenges {
         *challenge = M61::of(generator.next());
