@@ -23,3 +23,11 @@ pub mod Grown
 pub mod Added
 pub mod Alike
 pub mod Summing
+pub mod Paused
+pub mod Paces
+pub mod Compound
+pub mod Followed
+pub mod Blocks
+pub mod Rounds
+pub mod Rises
+pub mod Watched

@@ -2,10 +2,12 @@ pub mod Examples
 pub mod Fields
 pub mod Files
 pub mod Joining
+pub mod Loaded
 pub mod MemoryFiles
 pub mod Reading
 pub mod Risen
 pub mod Seats
 pub mod Sketches
 pub mod Standing
+pub mod Watching
 pub mod inside

@@ -1,5 +1,11 @@
 pub mod Adding
 pub mod Beginning
+pub mod Causes
+pub mod Following
 pub mod Heads
+pub mod Keeping
+pub mod Loading
+pub mod Pacing
 pub mod Raising
 pub mod Spelling
+pub mod Storing

@@ -19,6 +19,10 @@
 //! - [`Sketch::absorb`] adds the next part of a stream, which another collector kept: where the one
 //!   sketch stands for a stream and the other for one behind it, the sum stands for both. It says
 //!   why a part is not added, and leaves the sketch as it was then.
+//! - [`watch`] adds the records of a stream to the sketch of a desk, behind those that it has
+//!   already, and stores it after every so many and at the end; its status says what was read. Each
+//!   file that it stores is that of a sketch to which the first so many of the records came, with
+//!   the same seats, as many of them used.
 //! - [`Sketch::write`] writes that file, and takes memory only where there is less room than the
 //!   file has bytes ([`Sketch::size`]).
 //!
@@ -32,6 +36,8 @@
 //! | `Sketches` | what a sketch has, its numbers in their order, the fields of its file |
 //! | `Joining` | what a sketch and the next part add up to, and why a part is not added |
 //! | `Reading` | what reading answers, and the sketch or the fault that this is |
+//! | `Loaded` | when a file is no sketch, and from which byte on |
+//! | `Watching` | what is read of a stream that is watched, and when the sketch is stored |
 //! | `Risen` | which count of faults rose where a call over files answers that a port failed |
 //! | `Files`, `MemoryFiles` | what is loaded of files that are read whole; what those in memory have |
 //! | `Examples` | what the examples work out |
@@ -45,16 +51,24 @@ mod cursor;
 pub mod examples;
 mod fault;
 mod files;
+mod filling;
+mod following;
+mod keeping;
 mod kind;
 pub mod laws;
+mod loading;
 mod memory_files;
+mod pace;
 mod parts;
+mod passing;
 mod reading;
 mod seat;
 mod sketch;
 mod status;
+mod storing;
 mod unlike;
 mod updating;
+mod watching;
 mod writing;
 
 pub use beginning::BeginFault;
@@ -68,3 +82,4 @@ pub use sketch::Sketch;
 pub use status::{SketchPort, SketchStatus};
 pub use unlike::Unlike;
 pub use updating::MOST_UPDATES;
+pub use watching::watch;
