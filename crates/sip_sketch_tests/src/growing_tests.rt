@@ -15,7 +15,7 @@ const BEGUN: [u8; 32] = [
 const KINDS: [SeatKind; 2] = [SeatKind::Entries, SeatKind::Sums(Side::First)];
 
 // Its file: no weight, no record, no fingerprint, and no number in a seat.
-fn begun() -> [u8; 152] {
+pub(crate) fn begun() -> [u8; 152] {
     let mut bytes = WATCHED;
     bytes[25] = 0;
     bytes[41] = 0;

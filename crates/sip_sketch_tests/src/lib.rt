@@ -9,3 +9,5 @@ mod absorbing_tests;
 mod file_tests;
 #[cfg(test)]
 mod growing_tests;
+#[cfg(test)]
+mod watch_tests;
