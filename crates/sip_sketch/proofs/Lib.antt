@@ -27,3 +27,11 @@ pub mod Causes
 pub mod Crashes
 pub mod Founded
 pub mod Loaded
+pub mod Paused
+pub mod Paces
+pub mod Compound
+pub mod Followed
+pub mod Blocks
+pub mod Rounds
+pub mod Rises
+pub mod Watched

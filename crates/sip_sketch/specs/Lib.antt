@@ -3,6 +3,7 @@ pub mod Examples
 pub mod Fields
 pub mod Files
 pub mod Joining
+pub mod Loaded
 pub mod MemoryFiles
 pub mod Reading
 pub mod Risen
@@ -11,4 +12,5 @@ pub mod Seats
 pub mod Showing
 pub mod Sketches
 pub mod Standing
+pub mod Watching
 pub mod inside

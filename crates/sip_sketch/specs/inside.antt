@@ -1,9 +1,12 @@
 pub mod Adding
 pub mod Beginning
 pub mod Causes
+pub mod Following
 pub mod Founding
 pub mod Heads
+pub mod Keeping
 pub mod Loading
+pub mod Pacing
 pub mod Raising
 pub mod Spelling
 pub mod Storing

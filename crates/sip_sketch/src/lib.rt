@@ -23,6 +23,10 @@
 //!   other file as it is; its status says which. Whenever a crash comes, the file is missing or
 //!   whole ([`laws::a_begin_leaves_whole_files`]).
 //! - [`seats`] writes the lines of a sketch, which have none of its secrets.
+//! - [`watch`] adds the records of a stream to the sketch of a desk, behind those that it has
+//!   already, and stores it after every so many and at the end; its status says what was read. Each
+//!   file that it stores is that of a sketch to which the first so many of the records came, with
+//!   the same seats, as many of them used.
 //! - [`Sketch::write`] writes that file, and takes memory only where there is less room than the
 //!   file has bytes ([`Sketch::size`]).
 //!
@@ -38,6 +42,8 @@
 //! | `Reading` | what reading answers, and the sketch or the fault that this is |
 //! | `Beginnings` | what each ending of [`begin`] says of its desk and its seed |
 //! | `Showing`, `SeatLines` | what each ending of [`seats`] says of its file and its report; the lines |
+//! | `Loaded` | when a file is no sketch, and from which byte on |
+//! | `Watching` | what is read of a stream that is watched, and when the sketch is stored |
 //! | `Risen` | which count of faults rose where a call over files answers that a port failed |
 //! | `Files`, `MemoryFiles` | what is loaded of files that are read whole; what those in memory have |
 //! | `Examples` | what the examples work out |
@@ -51,12 +57,17 @@ mod cursor;
 pub mod examples;
 mod fault;
 mod files;
+mod filling;
+mod following;
 mod founding;
+mod keeping;
 mod kind;
 pub mod laws;
 mod loading;
 mod memory_files;
+mod pace;
 mod parts;
+mod passing;
 mod reading;
 mod seat;
 mod showing;
@@ -65,6 +76,7 @@ mod status;
 mod storing;
 mod unlike;
 mod updating;
+mod watching;
 mod writing;
 
 pub use beginning::BeginFault;
@@ -80,3 +92,4 @@ pub use sketch::Sketch;
 pub use status::{SketchPort, SketchStatus};
 pub use unlike::Unlike;
 pub use updating::MOST_UPDATES;
+pub use watching::watch;

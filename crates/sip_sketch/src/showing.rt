@@ -8,9 +8,9 @@ ghost use Rattle.sip_sketch.specs.SeatLines.{head_lines, lines_of, parts_line, r
 ghost use Rattle.sip_sketch.specs.SeatLines.{seat_line, sides_text};
 ghost use Rattle.sip_sketch.specs.Showing.{IsLoaded, Shows};
 ghost use Rattle.sip_sketch.specs.inside.Causes.{with_sketch};
-ghost use Rattle.sip_sketch.specs.inside.Loading.{IsUnloaded};
+ghost use Rattle.sip_sketch.specs.inside.Loading.{IsUnshown};
 
-use crate::loading::read_part;
+use crate::loading::read_loaded;
 use crate::{Parts, Sketch, SketchFiles, SketchPort, SketchSeat, SketchStatus};
 use arrayvec::ArrayVec;
 use sip_ports::{PortStop, Sink, write_whole};
@@ -124,7 +124,7 @@ fn lines(sketch: &Sketch) -> ArrayVec<u8, ROOM>
 // Loads the sketch.
 fn load<F: SketchFiles>(alloc: Global, files: &mut F) -> Result<Sketch, SketchStatus>
     ensures found { IfOk result (IsLoaded (F.content files.old)) }
-    ensures why { IfErr result (IsUnloaded (F.content files.old)) }
+    ensures why { IfErr result (IsUnshown (F.content files.old)) }
     ensures cause { (before now : AnyCounts) → IfErr result
         (HasRisen (with_sketch before (F.faults files.old))
         (with_sketch now (F.faults files.new))) }
@@ -132,7 +132,7 @@ fn load<F: SketchFiles>(alloc: Global, files: &mut F) -> Result<Sketch, SketchSt
     ensures files { Lasts F.faults F.wants F.is_sure files.old files.new }
 {
     match files.load(alloc, 0) {
-        Ok(file) => read_part(alloc, 0, file),
+        Ok(file) => read_loaded(alloc, 0, file),
         Err(PortStop::Failed) => Err(SketchStatus::ReadFault {
             port: SketchPort::Sketch,
         }),

@@ -1,7 +1,7 @@
 //! What a verifier keeps of a stream.
 
 ghost use Rattle.std.specs.Prelude.{◌≡◌, ◌≤◌, length};
-ghost use Rattle.sip_sketch.specs.Sketches.{most_seats};
+ghost use Rattle.sip_sketch.specs.Sketches.{IsSketch, most_seats};
 
 use crate::{Parts, SketchSeat};
 use sip_vector::{Depth, Tally};
@@ -37,6 +37,13 @@ impl Model for Sketch {
 }
 
 impl Sketch {
+    /// Each sketch is one that a file can have. This does nothing: its contract is the fact.
+    pub(crate) fn has_a_file(&self)
+        ensures { IsSketch self.now }
+    {
+        let _levels = self.depth;
+    }
+
     /// The depth of its vectors.
     pub fn depth(&self) -> Depth
         ensures { result ≡ self.now.depth }

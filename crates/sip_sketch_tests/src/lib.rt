@@ -14,3 +14,5 @@ mod file_tests;
 mod growing_tests;
 #[cfg(test)]
 mod showing_tests;
+#[cfg(test)]
+mod watch_tests;

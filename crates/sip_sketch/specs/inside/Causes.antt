@@ -9,3 +9,7 @@ with_sketch c sketch = counts c.first c.second sketch c.parts c.report
 -- these counts, with this one of the seed
 abbrev pub with_second : Counts → ℕ → Counts
 with_second c second = counts c.first second c.sketch c.parts c.report
+
+-- these counts, with this one of the stream
+abbrev pub with_first : Counts → ℕ → Counts
+with_first c first = counts first c.second c.sketch c.parts c.report
