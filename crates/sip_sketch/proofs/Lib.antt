@@ -31,3 +31,4 @@ pub mod Blocks
 pub mod Rounds
 pub mod Rises
 pub mod Watched
+pub mod WatchedCrashes

@@ -1,6 +1,12 @@
-//! Laws of the file. These functions do nothing: each contract is a fact that holds.
+//! Laws of the file, and of crashes. These functions do nothing: each contract is a fact that holds.
 
-ghost use Rattle.std.specs.Prelude.{◌≡◌, ◌<◌, ℕ, List, Ok, All};
+ghost use Rattle.std.specs.Prelude.{◌≡◌, ◌⊎◌, ◌<◌, ◌++◌, ℕ, List, Ok, All, Some, take, Contains};
+ghost use Rattle.std.specs.declared.option.Option.{Option};
+ghost use Rattle.sip_ports.specs.Desk.{may_hold};
+ghost use Rattle.sip_ports.specs.declared.port.TalkEvent.{TalkEvent};
+ghost use Rattle.sip_sketch.specs.Watching.{IsOwnFile, Watches};
+ghost use Rattle.sip_sketch.specs.declared.status.SketchStatus.{SketchStatus};
+ghost use Rattle.sip_stream.specs.declared.form.Form.{Form};
 ghost use Rattle.sip_sketch.specs.Fields.{AreValues, Fields, read, spelling};
 ghost use Rattle.sip_sketch.specs.Sketches.{IsSketch, SketchValues, numbers};
 
@@ -18,4 +24,15 @@ pub fn reading_is_exact()
 pub fn numbers_tell_sketches_apart()
     ensures { (one other : SketchValues) → IsSketch one → IsSketch other
         → numbers one ≡ numbers other → one ≡ other }
+{}
+
+/// Whenever a crash comes while a stream is watched, the file has what it might have before, or is
+/// one that the call stored, whole: that of the sketch to which a front of the added records came,
+/// as many as a multiple of `every`, or all.
+pub fn a_watch_leaves_whole_files()
+    ensures { (form : Form) (at every : Option ℕ) (start left more : Option (List ℕ))
+        (talk events : List TalkEvent) (n : ℕ) (content : Option (List ℕ))
+        → Contains (may_hold start (talk ++ take n events)) content → (status : SketchStatus)
+        → Watches form at every start left (Some talk) more (Some (talk ++ events)) status
+        → Contains (may_hold start talk) content ⊎ IsOwnFile every start (Some talk) content }
 {}
