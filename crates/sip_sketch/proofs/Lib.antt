@@ -26,7 +26,6 @@ pub mod Summing
 pub mod Causes
 pub mod Crashes
 pub mod Founded
-pub mod Loaded
 pub mod Paused
 pub mod Paces
 pub mod Compound
@@ -35,3 +34,4 @@ pub mod Blocks
 pub mod Rounds
 pub mod Rises
 pub mod Watched
+pub mod WatchedCrashes

@@ -1,6 +1,6 @@
 -- What a call did that watches a stream for the sketch of a desk.
 use Rattle.std.specs.Prelude.{◌≡◌, ◌≢◌, ◌⊎◌, ℕ, ◌+◌, ◌*◌, ◌/◌, ◌<◌, ◌≤◌, Bool, true, false, List}
-use Rattle.std.specs.Prelude.{[], ◌∷◌, ◌++◌, length, take, map, flat_map, None, Some}
+use Rattle.std.specs.Prelude.{[], ◌∷◌, ◌++◌, length, take, map, flat_map, None, Some, Contains}
 use Rattle.std.specs.List.{AllZip, range_with_len}
 use Rattle.std.specs.declared.option.Option.{Option}
 use Rattle.sip_ports.specs.Desk.{Loads, steps}
@@ -188,3 +188,18 @@ module _ (form : Form) (at every : Option ℕ) where
         ⊎ Came (λ s added. IsCut every s added old new)
         (λ s bytes added. (pause : Pause) × IsRead s bytes left' added pause)
     Watches left' new _ = ⊥
+
+-- ---- crashes
+
+-- this content is one of the files of these numbers
+abbrev pub IsOneOf : (ℕ → List ℕ → Type 0) → List ℕ → Option (List ℕ) → Type 0
+IsOneOf is_file counts content = (count : ℕ) × (file : List ℕ) × Contains counts count
+    × is_file count file × (content ≡ Some file)
+
+-- It is a file that the call stored: that of the sketch that was loaded, with the first so many of
+-- the records that were added, at a number at which it was due.
+abbrev pub IsOwnFile : Option ℕ → Option (List ℕ) → Option (List TalkEvent) → Option (List ℕ)
+    → Type 0
+IsOwnFile every start talk content = (s : SketchValues)
+    × Loads start talk (Some (spelled_file s)) × (added : List Update)
+    × IsOneOf (IsFileAt s added) (due every (length added)) content

@@ -7,6 +7,8 @@ ghost use Rattle.std.specs.declared.option.Option.{Option};
 ghost use Rattle.sip_ports.specs.Desk.{may_hold};
 ghost use Rattle.sip_ports.specs.declared.port.TalkEvent.{TalkEvent};
 ghost use Rattle.sip_sketch.specs.Beginnings.{Begins, IsFirstFile, IsNew};
+ghost use Rattle.sip_sketch.specs.Watching.{IsOwnFile, Watches};
+ghost use Rattle.sip_stream.specs.declared.form.Form.{Form};
 ghost use Rattle.sip_sketch.specs.Fields.{AreValues, Fields, read, spelling};
 ghost use Rattle.sip_sketch.specs.Sketches.{IsSketch, SketchValues, numbers};
 ghost use Rattle.sip_sketch.specs.declared.kind.SeatKind.{SeatKind};
@@ -44,4 +46,15 @@ pub fn a_begin_leaves_whole_files()
         → Begins depth part kinds left start (Some talk) (Some now) statuses.Wrote
         → (file : List ℕ) × IsFirstFile depth part kinds left file
         × (may_hold start now ≡ Some file ∷ []) }
+{}
+
+/// Whenever a crash comes while a stream is watched, the file has what it might have before, or is
+/// one that the call stored, whole: that of the sketch to which a front of the added records came,
+/// as many as a multiple of `every`, or all.
+pub fn a_watch_leaves_whole_files()
+    ensures { (form : Form) (at every : Option ℕ) (start left more : Option (List ℕ))
+        (talk events : List TalkEvent) (n : ℕ) (content : Option (List ℕ))
+        → Contains (may_hold start (talk ++ take n events)) content → (status : SketchStatus)
+        → Watches form at every start left (Some talk) more (Some (talk ++ events)) status
+        → Contains (may_hold start talk) content ⊎ IsOwnFile every start (Some talk) content }
 {}

@@ -26,7 +26,8 @@
 //! - [`watch`] adds the records of a stream to the sketch of a desk, behind those that it has
 //!   already, and stores it after every so many and at the end; its status says what was read. Each
 //!   file that it stores is that of a sketch to which the first so many of the records came, with
-//!   the same seats, as many of them used.
+//!   the same seats, as many of them used. Whenever a crash comes, the file is one of these or as
+//!   it was ([`laws::a_watch_leaves_whole_files`]).
 //! - [`Sketch::write`] writes that file, and takes memory only where there is less room than the
 //!   file has bytes ([`Sketch::size`]).
 //!
