@@ -1,5 +1,5 @@
 -- One block more of a stream.
-use Rattle.std.proofs.Common.{◌≡◌, ◌⊎◌, ℕ, ◌+◌, ◌*◌, ◌-◌, ◌<◌, ◌≤◌, true, false, List, [], ◌∷◌, ◌++◌, length, None, Some, inl, inr, refl, sym, ap, subst, ◌∙◌, arith, append-nil, length-append, map}
+use Rattle.std.proofs.Common.{◌≡◌, ℕ, ◌+◌, ◌*◌, ◌-◌, ◌<◌, ◌≤◌, true, false, List, [], ◌∷◌, ◌++◌, length, None, Some, inl, inr, refl, sym, ap, subst, ◌∙◌, arith, append-nil, length-append, map}
 use Rattle.std.specs.Prelude.{IfSome}
 use Rattle.std.specs.List.{range_with_len}
 use Rattle.std.specs.declared.option.Option.{Option}
@@ -15,7 +15,6 @@ use Rattle.sip_sketch.specs.Watching.{multiples}
 use Rattle.sip_sketch.specs.declared.filling.Pause.{Pause}
 use Rattle.sip_sketch.specs.declared.filling.Pause.TheVariants.{Full}
 use Rattle.sip_sketch.specs.declared.pace.Pace.{Pace}
-use Rattle.sip_sketch.specs.declared.status.SketchPort.TheVariants as ports
 use Rattle.sip_sketch.specs.declared.status.SketchStatus.{SketchStatus}
 use Rattle.sip_sketch.specs.declared.status.SketchStatus.TheVariants as statuses
 use Rattle.sip_sketch.specs.inside.Following.{AreAdded, HasCome}

@@ -1,5 +1,5 @@
 -- What a call did that watched a stream, by how its steps ended.
-use Rattle.std.proofs.Common.{◌≡◌, ◌⊎◌, ℕ, ◌+◌, ◌<◌, ◌≤◌, Bool, true, false, List, [], ◌∷◌, ◌++◌, length, None, Some, inl, inr, refl, sym, ap, subst, ◌∙◌, arith}
+use Rattle.std.proofs.Common.{◌≡◌, ℕ, ◌+◌, ◌<◌, List, [], length, Some, inl, inr, refl, sym, subst}
 use Rattle.std.specs.Prelude.{flat_map, take}
 use Rattle.std.specs.declared.option.Option.{Option}
 use Rattle.sip_ports.specs.Desk.{Loads, steps}
@@ -10,10 +10,8 @@ use Rattle.sip_stream.specs.declared.fault.StreamFault.{StreamFault}
 use Rattle.sip_stream.specs.declared.fault.StreamFault.TheVariants as faults
 use Rattle.sip_stream.specs.declared.form.Form.{Form}
 use Rattle.sip_vector.specs.declared.update.Update.{Update}
-use Rattle.sip_sketch.specs.Loaded.{IsBadFile}
-use Rattle.sip_sketch.specs.Sketches.{IsSketch, SketchValues, spelled_file}
-use Rattle.sip_sketch.specs.Standing.{Stands}
-use Rattle.sip_sketch.specs.Watching.{Came, IsBehind, IsCut, IsFollowed, IsNoStart, IsOpened, IsRead, IsStored, IsUntouched, ReadsTo, Watches, begins_at, due, multiples}
+use Rattle.sip_sketch.specs.Sketches.{SketchValues, spelled_file}
+use Rattle.sip_sketch.specs.Watching.{Came, IsBehind, IsCut, IsFollowed, IsOpened, IsRead, IsStored, ReadsTo, Watches, begins_at, due, multiples}
 use Rattle.sip_sketch.specs.declared.filling.Pause.{Pause}
 use Rattle.sip_sketch.specs.declared.filling.Pause.TheVariants.{Full, Ended, Stopped}
 use Rattle.sip_sketch.specs.declared.status.SketchPort.TheVariants as ports

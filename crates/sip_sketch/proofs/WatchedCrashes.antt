@@ -1,18 +1,18 @@
 -- What a crash leaves while a stream is watched.
-use Rattle.std.proofs.Common.{◌≡◌, ◌⊎◌, ℕ, zero, suc, ◌+◌, ◌-◌, ◌<◌, ◌≤◌, List, [], ◌∷◌, ◌++◌, length, take, Some, None, inl, inr, refl, sym, ap, subst, ◌∙◌, arith, append-nil, append_assoc, take_all, take-take}
+use Rattle.std.proofs.Common.{◌≡◌, ◌⊎◌, ℕ, zero, suc, ◌+◌, ◌-◌, List, [], ◌∷◌, ◌++◌, length, take, Some, inl, inr, refl, sym, ap, subst, ◌∙◌, arith, append-nil, append_assoc, take_all, take-take}
 use Rattle.std.specs.Prelude.{Contains, flat_map}
 use Rattle.std.specs.List.{AllZip}
 use Rattle.std.specs.declared.option.Option.{Option}
-use Rattle.std.proofs.Math.Seq.{take-append-add, take-length}
+use Rattle.std.proofs.Math.Seq.{take-append-add}
 use Rattle.std.proofs.lemmas.Bool.{cases_lt}
 use Rattle.std.proofs.lemmas.List.{append_cancel_left, length-take, take-append-le}
 use Rattle.std.proofs.lemmas.List.Elements.{Contains-push_cases}
-use Rattle.sip_ports.specs.Desk.{Loads, may_hold, steps}
+use Rattle.sip_ports.specs.Desk.{may_hold, steps}
 use Rattle.sip_ports.specs.Ports.{GoesOn}
 use Rattle.sip_ports.specs.declared.port.TalkEvent.{TalkEvent}
 use Rattle.sip_stream.specs.declared.form.Form.{Form}
 use Rattle.sip_vector.specs.declared.update.Update.{Update}
-use Rattle.sip_sketch.specs.Sketches.{SketchValues, spelled_file}
+use Rattle.sip_sketch.specs.Sketches.{SketchValues}
 use Rattle.sip_sketch.specs.Watching.{IsCut, IsFileAt, IsOneOf, IsOpened, IsOwnFile, IsStored, Watches, due}
 use Rattle.sip_sketch.specs.declared.status.SketchPort.TheVariants as ports
 use Rattle.sip_sketch.specs.declared.status.SketchStatus.{SketchStatus}

@@ -1,5 +1,5 @@
 -- Where reading pauses, and one more record with those that the source held behind it.
-use Rattle.std.proofs.Common.{◌≡◌, ◌+◌, ◌-◌, ◌≤◌, ◌++◌, ◌∷◌, ◌∙◌, [], List, arith, ap, length, rules, slice_set, subst, sym, take}
+use Rattle.std.proofs.Common.{◌≡◌, ◌+◌, ◌-◌, ◌≤◌, ◌++◌, ◌∷◌, ◌∙◌, [], List, ap, length, rules, slice_set, subst, sym, take}
 use Rattle.std.proofs.lemmas.List.{take_more_set}
 use Rattle.sip_stream.specs.Reading.{IsAfter}
 use Rattle.sip_vector.specs.declared.update.Update.{Update}

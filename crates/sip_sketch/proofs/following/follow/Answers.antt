@@ -1,14 +1,8 @@
 -- Each block that came, and how it ended.
-use Rattle.std.proofs.Common.{◌≡◌, ◌≤◌, ◌<◌, ◌+◌, ℕ, true, false, rules, arith, refl, sym, ap, subst, ◌∙◌, length}
-use Rattle.std.specs.Prelude.{IfSome}
-use Rattle.std.specs.declared.option.Option.{Option}
-use Rattle.sip_ports.specs.Ports.{Rose}
-use Rattle.sip_ports.specs.declared.port.TalkEvent.{TalkEvent}
-use Rattle.sip_stream.specs.declared.fault.StreamFault.TheVariants as faults
+use Rattle.std.proofs.Common.{◌≡◌, ◌≤◌, ◌<◌, ◌+◌, true, false, rules, arith, refl, ap, subst, ◌∙◌, length}
 use Rattle.sip_vector.specs.declared.tally.Tally.{Tally}
-use Rattle.sip_sketch.specs.Risen.{Counts, HasRisen}
+use Rattle.sip_sketch.specs.Risen.{HasRisen}
 use Rattle.sip_sketch.specs.Sketches.{spelled_file}
-use Rattle.sip_sketch.specs.declared.filling.Pause.{Pause}
 use Rattle.sip_sketch.specs.declared.filling.Pause.TheVariants.{Full, Ended, Stopped}
 use Rattle.sip_sketch.specs.declared.status.SketchStatus.{SketchStatus}
 use Rattle.sip_sketch.specs.inside.Causes.{with_first, with_sketch}

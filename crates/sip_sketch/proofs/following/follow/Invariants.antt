@@ -1,5 +1,5 @@
 -- These came to the sketch, which was stored at each multiple.
-use Rattle.std.proofs.Common.{◌≡◌, ℕ, ◌+◌, ◌-◌, ◌*◌, ◌<◌, List}
+use Rattle.std.proofs.Common.{◌≡◌, ◌+◌, ◌-◌, ◌*◌, ◌<◌}
 use Rattle.std.specs.Prelude.{IfSome, IsSome}
 use Rattle.sip_ports.specs.Ports.{Lasts}
 use Rattle.sip_vector.specs.Streams.{most_weight}

@@ -1,12 +1,10 @@
 -- What was read, or that no stream has the sketch's numbers.
-use Rattle.std.proofs.Common.{◌≡◌, ◌++◌, ◌∙◌, ℕ, List, [], ap, sym, subst, take, refl, true, false}
+use Rattle.std.proofs.Common.{◌≡◌, ◌++◌, ◌∙◌, List, ap, sym, subst, take, false}
 use Rattle.std.specs.Prelude.{IsTrue}
 use Rattle.sip_stream.specs.Reading.{Reading, IsAfter}
-use Rattle.sip_stream.specs.declared.form.Form.{Form}
 use Rattle.sip_vector.specs.Streams.{IsLegal}
-use Rattle.sip_vector.specs.declared.tally.Tally.{Tally}
 use Rattle.sip_vector.specs.declared.update.Update.{Update}
-use Rattle.sip_sketch.specs.Standing.{MayCome, Stands}
+use Rattle.sip_sketch.specs.Standing.{MayCome}
 use Rattle.sip_sketch.proofs.Compound.{legal_comes}
 use Rattle.sip_sketch.proofs.Paused.{legal_after}
 use Rattle.sip_sketch.proofs.following.next_block.Goals as goal

@@ -1,5 +1,5 @@
 -- The records of one block more came.
-use Rattle.std.proofs.Common.{◌≡◌, ◌+◌, ◌++◌, ◌∙◌, [], List, arith, ap, length, length-append, rules, take}
+use Rattle.std.proofs.Common.{◌++◌, [], List, arith, length-append, rules, take}
 use Rattle.std.proofs.lemmas.List.{length-take-le}
 use Rattle.sip_vector.specs.declared.update.Update.{Update}
 use Rattle.sip_sketch.specs.declared.filling.Pause.TheVariants.{Full}

@@ -1,5 +1,5 @@
 -- So many records came, and more are to come.
-use Rattle.std.proofs.Common.{◌≡◌, ℕ, ◌-◌, ◌≤◌, ◌++◌, List, [], length, Some, false}
+use Rattle.std.proofs.Common.{◌≡◌, ℕ, ◌-◌, ◌≤◌, List, [], length, Some, false}
 use Rattle.std.specs.Prelude.{IsSome}
 use Rattle.sip_ports.specs.Ports.{Lasts}
 use Rattle.sip_stream.specs.Reading.{IsAfter}

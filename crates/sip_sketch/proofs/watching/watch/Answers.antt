@@ -1,16 +1,12 @@
 -- How the call ended.
-use Rattle.std.proofs.Common.{◌≡◌, ◌∙◌, ℕ, ◌+◌, ◌≤◌, ◌<◌, List, [], length, Some, ap, arith, refl, rules, subst, sym}
+use Rattle.std.proofs.Common.{◌≡◌, ◌∙◌, ℕ, ◌+◌, List, length, Some, ap, arith, refl, subst, sym}
 use Rattle.std.proofs.lemmas.Grind.{common_steps}
 use Rattle.sip_ports.specs.Desk.{Loads}
-use Rattle.sip_ports.specs.Ports.{GoesOn}
 use Rattle.sip_ports.proofs.TalkLemmas.{GoesOn-refl}
 use Rattle.sip_vector.specs.declared.tally.Tally.{Tally}
-use Rattle.sip_vector.specs.declared.update.Update.{Update}
-use Rattle.sip_sketch.specs.declared.parts.Parts.{Parts}
-use Rattle.sip_sketch.specs.Risen.{Counts, HasRisen}
-use Rattle.sip_sketch.specs.Sketches.{IsSketch, SketchValues, spelled_file}
-use Rattle.sip_sketch.specs.Watching.{IsOpened, ReadsTo, begins_at}
-use Rattle.sip_sketch.specs.declared.filling.Pause.{Pause}
+use Rattle.sip_sketch.specs.Risen.{HasRisen}
+use Rattle.sip_sketch.specs.Sketches.{SketchValues, spelled_file}
+use Rattle.sip_sketch.specs.Watching.{IsOpened, begins_at}
 use Rattle.sip_sketch.specs.declared.filling.Pause.TheVariants.{Full, Ended, Stopped}
 use Rattle.sip_sketch.specs.declared.status.SketchStatus.{SketchStatus}
 use Rattle.sip_sketch.specs.inside.Causes.{with_first, with_sketch}

@@ -1,9 +1,8 @@
 -- The next multiple was reached, or is nearer.
-use Rattle.std.proofs.Common.{arith, rules, ◌≡◌, ◌<◌, ◌≤◌, ◌-◌, Some, subst, sym, ◌+◌, false, true}
+use Rattle.std.proofs.Common.{arith, ◌≡◌, ◌<◌, ◌≤◌, ◌-◌, Some, subst, sym, ◌+◌, false, true}
 use Rattle.std.specs.Prelude.{Option, ℕ, IfSome}
 use Rattle.sip_sketch.specs.inside.Pacing.{IsUntil, Paces}
-use Rattle.sip_sketch.specs.declared.pace.Pace.{Pace}
-use Rattle.sip_sketch.proofs.Paces.{paces_all, paces_fewer, paces_none}
+use Rattle.sip_sketch.proofs.Paces.{paces_all, paces_fewer}
 use Rattle.sip_sketch.proofs.pace.Pace.pass.Goals as goal
 
 pub returns-then-more-gt0 : goal.returns-then-more-gt0
