@@ -7,4 +7,8 @@ mod Refusals
 mod Refused
 mod PromisedRuns
 mod SeatAsks
+mod StoreHeard
+mod StoreReading
+mod StoreTalks
+mod StoreTurns
 mod Starting

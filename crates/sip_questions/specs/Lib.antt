@@ -4,6 +4,8 @@ pub mod Counting
 pub mod Honest
 pub mod Promises
 pub mod Serving
+pub mod StoreFronts
+pub mod Stores
 pub mod Examples
 pub mod LawProofs
 pub mod inside

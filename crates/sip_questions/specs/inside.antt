@@ -1,2 +1,4 @@
 -- What only the contracts of private functions cite: no promise rests on a reading of it.
 pub mod Keeping
+pub mod StoreHearing
+pub mod StoreTurns

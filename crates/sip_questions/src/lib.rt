@@ -12,6 +12,10 @@
 //! [`serve_questions`] is the helper's end of such a talk: it takes turns, each of them a message
 //! that may come and then its reply, and its status says where it stopped (`ServesQuestions`).
 //!
+//! [`serve_store`] is a helper's end over records that it has of its own: it is told how many of
+//! them to hear, hears so many or all, says what they come to, and answers from there on
+//! (`ServesStore`).
+//!
 //! So far no command asks so, and none serves so.
 //!
 //! # The definitions to read
@@ -24,6 +28,8 @@
 //! | `Honest` | what an honest helper replies, and which questions it can answer |
 //! | `Promises` | what a run of questions promises, and which runs these are |
 //! | `Serving` | the turns of a helper of questions, and what it does on a link |
+//! | `StoreFronts` | which records of its store a helper hears |
+//! | `Stores` | what a helper with a store of its own does on a link |
 //! | `Examples` | what the examples work out |
 //!
 //! [`examples`] works out turns and refusals.
@@ -34,11 +40,17 @@ mod asking;
 pub mod examples;
 pub mod laws;
 mod question;
+mod recalling;
 mod seat;
 mod serving;
+mod store;
+mod store_hearing;
+mod store_status;
 
 pub use asker::{QuestionAsker, QuestionGiven};
 pub use asking::ask_question;
 pub use question::Question;
 pub use seat::QuestionSeat;
 pub use serving::{QuestionCore, serve_questions};
+pub use store::serve_store;
+pub use store_status::StoreStatus;

@@ -1,11 +1,13 @@
 //! What can be asked of a stream.
 
-ghost use Rattle.std.specs.Prelude.{◌≡◌};
+ghost use Rattle.std.specs.Prelude.{◌≡◌, ◌↔◌, IsTrue};
+ghost use Rattle.sip_questions.specs.Promises.{CanPose};
 ghost use Rattle.sip_questions.specs.Sittings.{query_like};
 
 use sip_lookup::Lookup;
-use sip_moments::Moment;
-use sip_vector::Query;
+use sip_moments::{LEAST_DEGREE, Moment};
+use sip_vector::{Depth, Query};
+use sip_wire::{MOST_DEGREE, Version};
 
 /// One question about a stream.
 #[derive(Clone, Copy, Debug, PartialEq, Eq)]
@@ -31,6 +33,24 @@ impl Default for Question {
 }
 
 impl Question {
+    /// Whether the question can be asked at a depth in a version.
+    pub fn can_pose(&self, version: Version, depth: Depth) -> bool
+        ensures { IsTrue result ↔ CanPose version depth self.now }
+    {
+        match self {
+            Question::Query(query) => {
+                query.is_built()
+                    && query.fits(depth)
+                    && depth.get() <= version.deepest()
+                    && version.speaks(query)
+            }
+            Question::Lookup(lookup) => lookup.item() < 1 << depth.get(),
+            Question::Moment(moment) => {
+                LEAST_DEGREE <= moment.degree && moment.degree <= MOST_DEGREE
+            }
+        }
+    }
+
     /// The query whose running numbers serve the question too: that of an entry for a lookup, and
     /// of the second moment of its side for a moment. So [`Running::begin`](sip_verifier::Running)
     /// of it begins what is kept of a stream for the question.

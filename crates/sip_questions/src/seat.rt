@@ -1,10 +1,11 @@
 //! What the replies to a question are judged by.
 
-ghost use Rattle.std.specs.Prelude.{◌≡◌, ℕ, IsTrue};
+ghost use Rattle.std.specs.Prelude.{◌≡◌, ℕ, IsTrue, length};
 ghost use Rattle.sip_verifier.specs.QuerySeats.{keeps};
 ghost use Rattle.sip_verifier.specs.Running.{block_of, numbers_of};
 ghost use Rattle.sip_verifier.specs.Weights.{weight_in};
 ghost use Rattle.sip_wire.specs.declared.version.Version.{Version as AnyVersion};
+ghost use Rattle.sip_questions.specs.Promises.{CanPose};
 ghost use Rattle.sip_questions.specs.Sittings.{CanAsk, block_at, nodes_at, places_at, query_like};
 ghost use Rattle.sip_questions.specs.Sittings.{question_at, refusal_at, running_at};
 
@@ -39,12 +40,15 @@ impl Default for QuestionSeat {
 
 impl QuestionSeat {
     /// The seat of a question by the running numbers of a stream, which are those of the query that
-    /// is like it ([`Question::query_like`]).
+    /// is like it ([`Question::query_like`]). It can be asked where the question can
+    /// ([`Question::can_pose`]).
     pub fn of(question: Question, running: Running) -> QuestionSeat
         requires { IsTrue (keeps (query_like question) (numbers_of running)) }
         ensures question { question_at result ≡ question }
         ensures block { block_at result ≡ block_of running }
         ensures running { running_at result ≡ numbers_of running }
+        ensures can { (version : AnyVersion) (depth : ℕ) → length (block_of running) ≡ depth
+            → CanPose version depth question → CanAsk version depth result }
     {
         match (question, running) {
             (Question::Query(query), running) => {

@@ -71,6 +71,27 @@ impl QuestionCore {
         }
     }
 
+    /// A helper of questions of what another one has heard of a stream and of queries.
+    pub(crate) fn behind(alloc: Global, stream: HelperCore) -> QuestionCore
+        ensures { result ≡ record fresh_questions { helper = stream } }
+    {
+        QuestionCore {
+            alloc,
+            core: stream,
+            lookups: 0,
+            sought: None,
+            moments: 0,
+            moment: None,
+        }
+    }
+
+    /// What was heard of the stream and of queries.
+    pub(crate) fn into_stream(self) -> HelperCore
+        ensures { result ≡ self.helper }
+    {
+        self.core
+    }
+
     /// The depth of a stream that has ended, where no query and no moment is open.
     fn idle(&self) -> Option<Depth>
         ensures { result ≡ idle_depth self.now }

@@ -1,0 +1,131 @@
+-- What a helper of questions with a store of its own does on a link.
+--
+-- Behind the opening one message may come but a Bye: it says how many records are to be heard. The
+-- first so many records of the store are heard, or all where it has fewer, as updates and then the
+-- end of the stream, and what they come to goes out. From there on the talk is one of questions.
+-- The store is read behind that message, and where it can't be, nothing more is said.
+use Rattle.std.specs.Prelude.{◌≡◌, ◌⊎◌, ℕ, ◌<◌, Bool, true, false, is_none, List, [], ◌∷◌, ◌++◌}
+use Rattle.std.specs.Prelude.{length, take, Option, Some, None}
+use Rattle.sip_ports.specs.declared.port.PortStop.{PortStop}
+use Rattle.sip_ports.specs.declared.port.TalkEvent.{TalkEvent}
+use Rattle.sip_ports.specs.Ports.{GoesOn, ins, outs}
+use Rattle.sip_stream.specs.declared.form.Form.{Form}
+use Rattle.sip_vector.specs.declared.update.Update.{Update}
+use Rattle.sip_wire.specs.declared.kind.Place.TheVariants as places
+use Rattle.sip_wire.specs.declared.message.Message.{Message}
+use Rattle.sip_wire.specs.declared.message.Message.TheVariants as messages
+use Rattle.sip_wire.specs.declared.version.Version.{Version}
+use Rattle.sip_helper.specs.declared.status.HelpStatus.{HelpStatus}
+use Rattle.sip_helper.specs.declared.status.HelpStatus.TheVariants as helps
+use Rattle.sip_helper.specs.OneTurn.{StopsTurn}
+use Rattle.sip_helper.specs.Rules.{EndsAs, ServesOn, TurnRules}
+use Rattle.sip_helper.specs.Statuses.{status_of_stop}
+use Rattle.sip_helper.specs.Streams.{stream_heard}
+use Rattle.sip_helper.specs.Turns.{version_opened}
+use Rattle.sip_questions.specs.declared.recalling.Recalling.{Recalling}
+use Rattle.sip_questions.specs.declared.store_status.StoreStatus.{StoreStatus}
+use Rattle.sip_questions.specs.declared.store_status.StoreStatus.TheVariants as statuses
+use Rattle.sip_questions.specs.Serving.{QuestionHelper, fresh_questions, question_rules}
+use Rattle.sip_questions.specs.StoreFronts.{Hears, IsOpening, IsUnheard, Recalls, asked_for}
+use Rattle.sip_questions.specs.StoreFronts.{held_frame, opening}
+
+-- ---- the message behind the opening
+
+-- it is awaited in a version
+abbrev pub awaiting : Version → Recalling
+awaiting version = record { version = version; count = None; done = false }
+
+-- how many records are to be heard may be said once, and a Bye may come
+abbrev pub may_recall : Recalling → Message → Bool
+may_recall s (messages.Recall count) = is_none s.count
+may_recall s messages.Bye = true
+may_recall s _ = false
+
+abbrev pub recall_step : Recalling → Message → Recalling
+recall_step s (messages.Recall count) = record s { count = Some count }
+recall_step s messages.Bye = record s { done = true }
+recall_step s _ = s
+
+-- nothing is owed to it by these rules: what is, is said when the records were heard
+abbrev pub recall_rules : TurnRules Recalling
+recall_rules = record {
+  version = λ s. s.version;
+  place = λ s. places.AskedQuestion;
+  is_allowed = may_recall;
+  step = λ s refused m. recall_step s m;
+  owed = λ s. [];
+  after_answer = λ s. s;
+  farewell = messages.Bye;
+  is_done = λ s. s.done;
+}
+
+-- The helper that has heard records at a depth, and their end: it has their vectors. In how many
+-- pieces they were heard is not seen of it.
+abbrev pub store_heard : ℕ → ℕ → List Update → QuestionHelper
+store_heard number depth us =
+    record fresh_questions { helper = stream_heard number depth (us ∷ []) }
+
+-- ---- the talk
+
+-- the status of a talk that ended so
+abbrev pub status_of : HelpStatus → StoreStatus
+status_of helps.Served = statuses.Served
+status_of (helps.BadFrame offset) = statuses.BadFrame offset
+status_of helps.PeerClosed = statuses.PeerClosed
+status_of helps.PeerFault = statuses.PeerFault
+status_of helps.OutOfMemory = statuses.OutOfMemory
+
+-- The talk ends with its second message: it says how many records are to be heard, or is a Bye, or
+-- may not come.
+pub record StopsAtRecall (old new : Option (List TalkEvent)) (how : HelpStatus) : Type 0 where
+  pub number : ℕ
+  pub depth : ℕ
+  pub opened : IsOpening number depth
+  pub rest : List TalkEvent
+  pub talk : GoesOn old new (ins (opening number depth) ++ rest)
+  pub ends : EndsAs recall_rules (awaiting (version_opened number))
+      (length (opening number depth)) rest how
+
+-- Over a store that has these bytes, and then those that are left, and a link that told `old` and
+-- tells `new`.
+module _ (form : Form) (store left : Option (List ℕ)) (old new : Option (List TalkEvent))
+    (status : StoreStatus) where
+  -- it ends with the first or the second message, and nothing of the store was read
+  pub record EndsUnasked : Type 0 where
+    pub how : HelpStatus
+    pub same : status ≡ status_of how
+    pub unread : left ≡ store
+    pub stops : StopsTurn question_rules old new fresh_questions 0 how ⊎ StopsAtRecall old new how
+
+  -- it ends while the records are heard: nothing was sent
+  pub record EndsUnheard : Type 0 where
+    pub recalls : Recalls
+    pub talk : GoesOn old new (ins (asked_for recalls))
+    pub why : IsUnheard recalls form store status
+
+  -- what they come to is cut short
+  pub record EndsAtHeld : Type 0 where
+    pub recalls : Recalls
+    pub us : List Update
+    pub hears : Hears recalls form store left us
+    pub stop : PortStop
+    pub same : status ≡ status_of (status_of_stop stop)
+    pub sent : ℕ
+    pub short : sent < length (held_frame recalls us)
+    pub talk : GoesOn old new (ins (asked_for recalls) ++ outs (take sent (held_frame recalls us)))
+
+  -- it goes out, and what is asked is answered by the records
+  pub record AnswersOn : Type 0 where
+    pub recalls : Recalls
+    pub us : List Update
+    pub hears : Hears recalls form store left us
+    pub between : Option (List TalkEvent)
+    pub talk : GoesOn old between (ins (asked_for recalls) ++ outs (held_frame recalls us))
+    pub how : HelpStatus
+    pub same : status ≡ status_of how
+    pub serves : ServesOn question_rules (store_heard recalls.number recalls.depth us)
+        (length (asked_for recalls)) between new how
+
+  -- Where it ended, and by which status.
+  abbrev pub ServesStore : Type 0
+  ServesStore = EndsUnasked ⊎ EndsUnheard ⊎ EndsAtHeld ⊎ AnswersOn

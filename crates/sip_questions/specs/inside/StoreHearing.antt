@@ -1,0 +1,94 @@
+-- How far the records of a store were heard.
+use Rattle.std.specs.Prelude.{◌≡◌, ℕ, ◌<◌, ◌≤◌, Bool, false, List, [], ◌∷◌, ◌++◌, length, take, Option}
+use Rattle.std.specs.Prelude.{Some, Result, Ok, Err}
+use Rattle.sip_stream.specs.declared.fault.StreamFault.{StreamFault}
+use Rattle.sip_stream.specs.declared.fault.StreamFault.TheVariants as faults
+use Rattle.sip_stream.specs.declared.form.Form.{Form}
+use Rattle.sip_stream.specs.Reading.{IsAfter, Reading, Tells}
+use Rattle.sip_stream.specs.Records.{records_from}
+use Rattle.sip_vector.specs.declared.update.Update.{Update}
+use Rattle.sip_wire.specs.declared.message.Held.{Held}
+use Rattle.sip_wire.specs.declared.message.Message.TheVariants as messages
+use Rattle.sip_helper.specs.Streams.{stream_heard}
+use Rattle.sip_helper.specs.Turns.{HelperState, part_of, step}
+use Rattle.sip_questions.specs.declared.store_status.StoreStatus.{StoreStatus}
+use Rattle.sip_questions.specs.StoreFronts.{Hears, IsUnheard, Recalls, held_of}
+
+-- A reader has taken these records off a source that had some bytes, and has others left.
+pub record Takes (old new : Reading) (had left : Option (List ℕ)) (us : List Update) : Type 0 where
+  pub depth : new.depth ≡ old.depth
+  pub form : new.form ≡ old.form
+  pub ready : new.is_spent ≡ false
+  pub after : (before : List Update) → IsAfter old before → IsAfter new (before ++ us)
+  pub tells : (before : List Update) → IsAfter old before → Tells old before
+      → Tells new (before ++ us)
+  pub same : (before : List Update) (bytes : List ℕ) → IsAfter old before → had ≡ Some bytes
+      → (rest : List ℕ) × (left ≡ Some rest)
+      × (records_from old.depth old.form before bytes
+      ≡ records_from old.depth old.form (before ++ us) rest)
+
+-- a reader has come to the end of a source that had some bytes
+abbrev pub IsReadOut : Reading → Option (List ℕ) → Option (List ℕ) → Type 0
+IsReadOut r had left =
+    (before : List Update) (bytes : List ℕ) → IsAfter r before → had ≡ Some bytes → left ≡ Some []
+
+-- fewer records than so many were there, and then one that is not legal; of a source that stopped
+-- nothing is said
+abbrev pub StopsWithin : Reading → Option (List ℕ) → ℕ → StreamFault → Type 0
+StopsWithin r had most (faults.Bad at why) =
+    (before : List Update) (bytes : List ℕ) → IsAfter r before → had ≡ Some bytes
+    → (us : List Update) × (length us < most) × (at ≡ length (before ++ us))
+    × (records_from r.depth r.form before bytes ≡ record { legal = before ++ us; fault = Some why })
+StopsWithin r had most faults.ReadFault = Unit {0}
+StopsWithin r had most faults.OutOfMemory = Unit {0}
+
+-- some records stand in front in a block, none where there are no more
+abbrev pub TakesSome : Reading → Reading → Option (List ℕ) → Option (List ℕ) → List Update
+    → Result ℕ StreamFault → Type 0
+TakesSome old new had left block (Ok came) =
+    (came ≤ length block) × Takes old new had left (take came block)
+    × (came ≡ 0 → IsReadOut old had left)
+TakesSome old new had left block (Err fault) = StopsWithin old had 1 fault
+
+-- a helper is as far as a reader is, and hears more
+pub record IsAsFar (s : HelperState) (r : Reading) : Type 0 where
+  pub part : part_of s.heard ≡ Some r.depth
+  pub first : s.weights.first ≡ r.first
+  pub second : s.weights.second ≡ r.second
+  pub live : s.spent ≡ false
+
+-- it has heard these records, whether memory was refused or not
+abbrev pub HasHeard : HelperState → HelperState → List Update → Type 0
+HasHeard s next us =
+    (refused : Bool) × (next ≡ step s refused (messages.Updates (record { items = us })))
+
+-- a reader has taken records off a source, and a helper has heard them
+pub record HearsOn (s next : HelperState) (old new : Reading) (had left : Option (List ℕ))
+    (us : List Update) : Type 0 where
+  pub takes : Takes old new had left us
+  pub heard : HasHeard s next us
+  pub far : IsAsFar next new
+
+-- so of as many records as are told, none where there are no more
+abbrev pub HearsSome : HelperState → HelperState → Reading → Reading → Option (List ℕ)
+    → Option (List ℕ) → ℕ → Result ℕ StreamFault → Type 0
+HearsSome s next old new had left most (Ok came) =
+    (us : List Update) × (length us ≡ came) × (came ≤ most)
+    × HearsOn s next old new had left us × (came ≡ 0 → IsReadOut old had left)
+HearsSome s next old new had left most (Err fault) = StopsWithin old had 1 fault
+
+-- so of so many records, or of all where there are fewer
+abbrev pub HearsFront : HelperState → HelperState → Reading → Reading → Option (List ℕ)
+    → Option (List ℕ) → ℕ → Result Unit StreamFault → Type 0
+HearsFront s next old new had left most (Ok _) =
+    (us : List Update) × (length us ≤ most) × HearsOn s next old new had left us
+    × (length us < most → IsReadOut old had left)
+HearsFront s next old new had left most (Err fault) = StopsWithin old had most fault
+
+-- the front that is asked for was heard, and its end, and this is what it comes to
+abbrev pub HearsStore : Recalls → Form → Option (List ℕ) → Option (List ℕ) → HelperState
+    → Result Held StoreStatus → Type 0
+HearsStore r form store left next (Ok held) =
+    (us : List Update) × Hears r form store left us
+    × (next ≡ stream_heard r.number r.depth (us ∷ [])) × (held ≡ held_of us)
+HearsStore r form store left next (Err status) = IsUnheard r form store status

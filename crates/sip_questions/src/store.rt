@@ -1,0 +1,124 @@
+//! The helper's end of a talk of questions, over a store of its own.
+
+ghost use Rattle.std.specs.Prelude.{◌≡◌, ◌⊎◌, ◌≤◌, [], Err, IfOk};
+ghost use Rattle.sip_ports.specs.Ports.{HasCause, Lasts, Rose, SendsWhole, Writes};
+ghost use Rattle.sip_wire.specs.declared.message.Message.TheVariants as messages;
+ghost use Rattle.sip_wire.specs.Spelling.{spelling};
+ghost use Rattle.sip_helper.specs.inside.Measures.{most_received};
+ghost use Rattle.sip_questions.specs.Serving.{fresh_questions};
+ghost use Rattle.sip_questions.specs.Stores.{ServesStore};
+ghost use Rattle.sip_questions.specs.inside.StoreTurns.{OpensStore};
+
+use crate::StoreStatus;
+use crate::recalling::Recalling;
+use crate::serving::QuestionCore;
+use crate::store_hearing::hear_store;
+use sip_helper::{HelpStatus, Helps, take_turn, talk_on};
+use sip_ports::{Link, PortStop, Source};
+use sip_stream::Form;
+use sip_wire::{Frame, Held, Message, Version, encode};
+use std::alloc::Global;
+
+/// How many records are to be heard, and how many bytes were received until that was said.
+#[derive(Clone, Copy)]
+struct Asked {
+    count: u64,
+    received: u64,
+}
+
+/// Hears an opening, and then how many records of the store are to be heard.
+fn open<L: Link>(
+    core: &mut QuestionCore,
+    link: &mut L,
+    frame: &mut Frame,
+) -> Result<Asked, HelpStatus>
+    requires { core.old ≡ fresh_questions }
+    ensures opens { OpensStore (L.talk link.old) (L.talk link.new) core.new result }
+    ensures short { IfOk result (λ asked. asked.received ≤ most_received) }
+    ensures cause { result ≡ Err HelpStatus.PeerFault
+        → Rose (L.faults link.old) (L.faults link.new) }
+    ensures memory { result ≡ Err HelpStatus.OutOfMemory
+        → Rose (L.wants link.old) (L.wants link.new) }
+    ensures lasts { Lasts L.faults L.wants L.is_sure link.old link.new }
+{
+    take_turn(core, link, frame, 0)?;
+    let opening = frame.bytes().len() as u64;
+    let mut recalling = Recalling::new(core.version_due());
+    take_turn(&mut recalling, link, frame, opening)?;
+    let received = opening + frame.bytes().len() as u64;
+    match recalling.count {
+        Some(count) => Ok(Asked { count, received }),
+        None => unreachable!(),
+    }
+}
+
+/// Says what was heard. It is a call of its own, since a message is as large as the longest frame's
+/// rows: the stack has it no longer than that.
+#[inline(never)]
+fn say_held<L: Link>(held: Held, version: Version, link: &mut L) -> Result<(), PortStop>
+    ensures talk { SendsWhole (L.talk link.old) (L.talk link.new) result
+        (spelling version (messages.Held held)) }
+    ensures cause { HasCause L.faults L.wants L.is_sure link.old link.new result }
+{
+    // Their types bound these numbers.
+    let _records = held.records;
+    let _first = held.first;
+    let _second = held.second;
+    let _fingerprint = held.fingerprint;
+    encode(&Message::Held(held), version, link)
+}
+
+/// Hears a talk of questions and answers, until a Bye, where the stream is not sent: the helper has
+/// its records in a store.
+///
+/// Behind the opening it is told how many records of the store it is to hear: the first so many, or
+/// all where there are fewer. It says what they come to, and from there on the talk is that of
+/// [`serve_questions`](crate::serve_questions), in which no more of the stream may come. The store
+/// is not read before, so that it may grow between two talks.
+///
+/// Memory is taken for one frame, which comes first, for a block of 512 records, for the two
+/// vectors, and for what the replies to a query or about a moment are made from. Where there is
+/// none for the frame the link is left alone. Where there is none for the block or the vectors, or
+/// the store wants some, the talk ends before it is said what was heard, so that the other end has
+/// asked nothing yet. Once that is said, want of memory is an answer to what is asked, and
+/// `OutOfMemory` comes only where the link's count of wants rose.
+///
+/// The time is that of a [`serve`](sip_helper::serve) that is sent the records, but for reading
+/// them.
+pub fn serve_store<A: Source, L: Link>(
+    alloc: Global,
+    form: Form,
+    first: &mut A,
+    link: &mut L,
+) -> StoreStatus
+    ensures serves { ServesStore form (A.left first.old) (A.left first.new) (L.talk link.old)
+        (L.talk link.new) result }
+    ensures cause { result ≡ StoreStatus.PeerFault
+        → Rose (L.faults link.old) (L.faults link.new) }
+    ensures read { result ≡ StoreStatus.ReadFault
+        → Rose (A.faults first.old) (A.faults first.new) }
+    ensures memory { result ≡ StoreStatus.OutOfMemory
+        → Writes (L.talk link.old) (L.talk link.new) []
+        ⊎ Rose (L.wants link.old) (L.wants link.new) }
+    ensures first { Lasts A.faults A.wants A.is_sure first.old first.new }
+    ensures lasts { Lasts L.faults L.wants L.is_sure link.old link.new }
+{
+    let Ok(mut frame) = Frame::new(alloc) else {
+        return StoreStatus::OutOfMemory;
+    };
+    let mut core = QuestionCore::new(alloc);
+    let asked = match open(&mut core, link, &mut frame) {
+        Ok(asked) => asked,
+        Err(how) => return StoreStatus::from(how),
+    };
+    let mut stream = core.into_stream();
+    let held = match hear_store(alloc, &mut stream, form, first, asked.count) {
+        Ok(held) => held,
+        Err(status) => return status,
+    };
+    if let Err(stop) = say_held(held, stream.spoken(), link) {
+        return StoreStatus::from(HelpStatus::from(stop));
+    }
+    let core = QuestionCore::behind(alloc, stream);
+    StoreStatus::from(talk_on(core, link, &mut frame, asked.received))
+}
