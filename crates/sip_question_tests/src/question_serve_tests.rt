@@ -15,44 +15,44 @@ type Talk = (
 );
 
 // The opening of a talk over four items, the vector (3, 0, 5, 1) and its end.
-const STREAM: [u8; 52] = [
+pub(crate) const STREAM: [u8; 52] = [
     1, 0, 2, 1, 2, 2, 0, 41, 0, 3, 0, 0, 0, 0, 0, 0, 0, 0, 0, 0, 0, 0, 3, 0, 0, 0, 0, 2, 0, 0, 0,
     0, 0, 0, 0, 5, 0, 0, 0, 0, 3, 0, 0, 0, 0, 0, 0, 0, 1, 3, 0, 0,
 ];
 
 // The challenge 2, and the two ends of a talk, of which a talk of questions has the first.
-const REVEALED: [u8; 11] = [5, 0, 8, 0, 0, 0, 0, 0, 0, 0, 2];
+pub(crate) const REVEALED: [u8; 11] = [5, 0, 8, 0, 0, 0, 0, 0, 0, 0, 2];
 
-const BYE: [u8; 3] = [6, 0, 0];
+pub(crate) const BYE: [u8; 3] = [6, 0, 0];
 
-const END: [u8; 3] = [0x23, 0, 0];
+pub(crate) const END: [u8; 3] = [0x23, 0, 0];
 
-const OUT_OF_TURN: [u8; 4] = [0x18, 0, 1, 4];
+pub(crate) const OUT_OF_TURN: [u8; 4] = [0x18, 0, 1, 4];
 
 // The entries 1 to 2: the entry (2, 5) and the siblings 3 and 1; then no siblings.
-const SUB_1_2: [u8; 12] = [4, 0, 9, 1, 0, 0, 0, 1, 0, 0, 0, 2];
+pub(crate) const SUB_1_2: [u8; 12] = [4, 0, 9, 1, 0, 0, 0, 1, 0, 0, 0, 2];
 
-const ENTRY: [u8; 37] = [
+pub(crate) const ENTRY: [u8; 37] = [
     0x13, 0, 0x0e, 0, 1, 0, 0, 0, 2, 0, 0, 0, 0, 0, 0, 0, 5, 0x14, 0, 0x11, 3, 0, 0, 0, 0, 0, 0, 0,
     3, 0, 0, 0, 0, 0, 0, 0, 1,
 ];
 
-const NO_SIBLINGS: [u8; 4] = [0x14, 0, 1, 0];
+pub(crate) const NO_SIBLINGS: [u8; 4] = [0x14, 0, 1, 0];
 
 // The second moment of side 0: 35, 34 - 60x + 25x^2, and then the number 9.
-const F2: [u8; 5] = [4, 0, 2, 3, 0];
+pub(crate) const F2: [u8; 5] = [4, 0, 2, 3, 0];
 
-const SQUARES: [u8; 38] = [
+pub(crate) const SQUARES: [u8; 38] = [
     0x11, 0, 8, 0, 0, 0, 0, 0, 0, 0, 0x23, 0x12, 0, 0x18, 0, 0, 0, 0, 0, 0, 0, 0x22, 0x1f, 0xff,
     0xff, 0xff, 0xff, 0xff, 0xff, 0xc5, 0, 0, 0, 0, 0, 0, 0, 0x19,
 ];
 
-const NINE: [u8; 27] = [
+pub(crate) const NINE: [u8; 27] = [
     0x12, 0, 0x18, 0, 0, 0, 0, 0, 0, 0, 9, 0, 0, 0, 0, 0, 0, 0, 0, 0, 0, 0, 0, 0, 0, 0, 0,
 ];
 
 // The entries of at least 4: the leaves 2 and 3, and then the node of items 0 and 1.
-const HEAVY_4: [u8; 13] = [4, 0, 10, 5, 0, 0, 0, 0, 0, 0, 0, 0, 4];
+pub(crate) const HEAVY_4: [u8; 13] = [4, 0, 10, 5, 0, 0, 0, 0, 0, 0, 0, 0, 4];
 
 const LEAVES: [u8; 32] = [
     0x15, 0, 0x1a, 0, 2, 0, 0, 0, 2, 0, 0, 0, 0, 0, 0, 0, 5, 0, 0, 0, 3, 0, 0, 0, 0, 0, 0, 0, 1,
@@ -64,26 +64,26 @@ const NODES: [u8; 28] = [
 ];
 
 // The nearest entry at item 1 or above it is at item 2.
-const ASK_SUCC_1: [u8; 12] = [0x21, 0, 9, 3, 0, 0, 0, 0, 0, 0, 0, 1];
+pub(crate) const ASK_SUCC_1: [u8; 12] = [0x21, 0, 9, 3, 0, 0, 0, 0, 0, 0, 0, 1];
 
-const FOUND_2: [u8; 12] = [0x22, 0, 9, 1, 0, 0, 0, 0, 0, 0, 0, 2];
+pub(crate) const FOUND_2: [u8; 12] = [0x22, 0, 9, 1, 0, 0, 0, 0, 0, 0, 0, 2];
 
 // The third moment of side 0: 153, 152 - 381x + 321x^2 - 91x^3, and then -27.
-const CUBES: [u8; 5] = [0x24, 0, 2, 0, 3];
+pub(crate) const CUBES: [u8; 5] = [0x24, 0, 2, 0, 3];
 
-const SUM: [u8; 46] = [
+pub(crate) const SUM: [u8; 46] = [
     0x11, 0, 8, 0, 0, 0, 0, 0, 0, 0, 153, 0x25, 0, 32, 0, 0, 0, 0, 0, 0, 0, 152, 0x1f, 0xff, 0xff,
     0xff, 0xff, 0xff, 0xfe, 0x82, 0, 0, 0, 0, 0, 0, 1, 0x41, 0x1f, 0xff, 0xff, 0xff, 0xff, 0xff,
     0xff, 0xa4,
 ];
 
-const LAST: [u8; 35] = [
+pub(crate) const LAST: [u8; 35] = [
     0x25, 0, 32, 0x1f, 0xff, 0xff, 0xff, 0xff, 0xff, 0xff, 0xe4, 0, 0, 0, 0, 0, 0, 0, 0, 0, 0, 0,
     0, 0, 0, 0, 0, 0, 0, 0, 0, 0, 0, 0, 0,
 ];
 
 // The helper of questions.
-struct Helper;
+pub(crate) struct Helper;
 
 impl Server for Helper {
     type End = HelpStatus;
