@@ -1,5 +1,5 @@
 -- Causes of faults, seen from an earlier moment to a later one.
-use Rattle.std.proofs.Common.{◌≡◌, ℕ, ◌≤◌}
+use Rattle.std.proofs.Common.{ℕ, ◌≤◌}
 use Rattle.sip_ports.specs.Ports.{Rose}
 use Rattle.sip_ports.proofs.FaultLemmas.{Rose-since, Rose-until}
 use Rattle.sip_sketch.specs.Risen.{Counts, HasRisen}

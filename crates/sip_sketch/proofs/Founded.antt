@@ -1,5 +1,5 @@
 -- What a call read of its seed that begins a sketch, and what it did to the file.
-use Rattle.std.proofs.Common.{◌≡◌, ◌⊎◌, ℕ, ◌+◌, ◌*◌, ◌<◌, ◌≤◌, List, [], ◌++◌, length, take, Some, None, inl, inr, sym, ap, ◌∙◌, arith, append-nil, length-append, take_all, take_at}
+use Rattle.std.proofs.Common.{◌≡◌, ℕ, ◌<◌, ◌≤◌, List, [], ◌++◌, length, take, Some, None, inl, inr, sym, ap, ◌∙◌, arith, append-nil, length-append, take_all, take_at}
 use Rattle.std.proofs.lemmas.List.{length-take}
 use Rattle.std.specs.Io.KnownBytes.{Consumes, IsAtEnd}
 use Rattle.std.specs.declared.option.Option.{Option}

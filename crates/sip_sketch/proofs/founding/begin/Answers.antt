@@ -1,4 +1,4 @@
-use Rattle.std.proofs.Common.{rules, subst, le_refl}
+use Rattle.std.proofs.Common.{rules, le_refl}
 use Rattle.sip_sketch.specs.Risen.{counts}
 use Rattle.sip_sketch.proofs.Causes.{risen_between}
 use Rattle.sip_sketch.proofs.Founded.{stored}

@@ -1,4 +1,4 @@
-use Rattle.std.proofs.Common.{subst, ap, sym, arith, length, ◌≡◌, rules}
+use Rattle.std.proofs.Common.{ap, arith, length}
 use Rattle.sip_sketch.proofs.Whole.{few_seats}
 use Rattle.sip_sketch.proofs.sketch.Sketch.seats.Goals as goal
 
