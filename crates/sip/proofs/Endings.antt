@@ -4,9 +4,9 @@ use Rattle.std.specs.Prelude.{IfSome, unwrap_or}
 use Rattle.sip_ports.specs.declared.port.TalkEvent.{TalkEvent}
 use Rattle.sip_verifier.specs.declared.status.Status.{Status}
 use Rattle.sip_verifier.specs.declared.status.Status.TheVariants as statuses
-use Rattle.sip_cli.specs.declared.command.Command.{Command}
-use Rattle.sip_cli.specs.declared.command.Command.TheVariants.{Verify, Help, Audit, Show, Convert, Gen, Lines, Widen, Play, Lookup, HelpLook, Moments, HelpMoments, Panel}
-use Rattle.sip_cli.specs.Pages.{PageClause}
+use Rattle.sip_words.specs.declared.command.Command.{Command}
+use Rattle.sip_words.specs.declared.command.Command.TheVariants.{Verify, Help, Audit, Show, Convert, Gen, Lines, Widen, Play, Lookup, HelpLook, Moments, HelpMoments, Panel}
+use Rattle.sip_advice.specs.Pages.{PageClause}
 use Rattle.sip_cli.specs.Statuses.{Ends}
 
 -- each command may end for want of memory

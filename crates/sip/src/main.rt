@@ -3,29 +3,31 @@
 
 ghost use Rattle.std.specs.Prelude.{◌≡◌, ◌⊎◌, ◌↔◌, ℕ, List, IsTrue, IfSome, IsSome, None};
 ghost use Rattle.sip_verifier.specs.declared.status.Status.{Status as AnyStatus};
-ghost use Rattle.sip_cli.specs.declared.command.Command.{Command as AnyCommand};
-ghost use Rattle.sip_cli.specs.declared.sparing.PlanFiles.{PlanFiles as AnyFiles};
-ghost use Rattle.sip_cli.specs.Exit.{code_of};
-ghost use Rattle.sip_cli.specs.Pages.{AsksPart, AsksText};
-ghost use Rattle.sip_cli.specs.Plan.{file_name};
-ghost use Rattle.sip_cli.specs.Sparing.{Spares};
+ghost use Rattle.sip_words.specs.declared.command.Command.{Command as AnyCommand};
+ghost use Rattle.sip_words.specs.declared.sparing.PlanFiles.{PlanFiles as AnyFiles};
+ghost use Rattle.sip_advice.specs.Exit.{code_of};
+ghost use Rattle.sip_advice.specs.Pages.{AsksPart, AsksText};
+ghost use Rattle.sip_words.specs.Plan.{file_name};
+ghost use Rattle.sip_words.specs.Sparing.{Spares};
 ghost use Rattle.sip_cli.specs.Statuses.{Ends};
 ghost use Rattle.sip_cli.specs.ToldStream.{stream_form, stream_teller, unread};
 ghost use Rattle.sip_cli.specs.ToldTalk.{IsScript, talk_teller, unsaid};
-ghost use Rattle.sip_cli.specs.Words.{IsSpelled, Spells, IsRefusedAt};
+ghost use Rattle.sip_words.specs.Words.{IsSpelled, Spells, IsRefusedAt};
 
-use sip_cli::{
-    Command, Ending, FileId, Lines, LinkOrder, Noted, OPENING_FROM, OPENING_TO, Opening, PlanFiles,
-    PortPlan, SeedLook, ToldLink, ToldSource, Trouble, Unopened, Usage, Words, finish, has_seed,
-    obey, page_of, page_without_file, panel, play, ports, read_words, status_without_words,
-    write_page,
+use sip_advice::{
+    Ending, Noted, SeedLook, Trouble, Unopened, finish, has_seed, page_of, page_without_file,
+    status_without_words, write_page,
 };
+use sip_cli::{Lines, OPENING_FROM, OPENING_TO, ToldLink, ToldSource, obey, panel, play};
 use sip_ports::{
     FileLink, FileSink, FileSource, NullSink, Sink, Source, StderrSink, StdoutSink, write_whole,
 };
 use sip_stream::MadeSource;
 use sip_vector::Negatives;
 use sip_verifier::Status;
+use sip_words::{
+    Command, FileId, LinkOrder, Opening, PlanFiles, PortPlan, Usage, Words, ports, read_words,
+};
 use std::fs::{self, File};
 use std::io::{Read, Stderr};
 use std::os::unix::fs::{MetadataExt, PermissionsExt};

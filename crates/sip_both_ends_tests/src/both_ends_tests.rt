@@ -1,13 +1,13 @@
 // Runs of `lookup` and of `moments` against runs of `helplook` and of `helpmom`.
 
 use crate::duel::{MOST_CHALLENGES, push_reveals, sent};
-use sip_cli::{Command, read_words};
 use sip_command_tests::case::Case;
 use sip_command_tests::frames::ZERO_SEED;
 use sip_command_tests::row::{RunInput, Shown, words_of};
 use sip_field::{M61, draw_challenges};
 use sip_vector::Depth;
 use sip_verifier::Status;
+use sip_words::{Command, read_words};
 use std::alloc::Global;
 use std::process::Abort;
 use std::test::Fail;

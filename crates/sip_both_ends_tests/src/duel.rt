@@ -1,12 +1,12 @@
 // A run of `verify` against a run of `help`.
 
-use sip_cli::{Command, read_words};
 use sip_command_tests::case::Case;
 use sip_command_tests::frames::*;
 use sip_command_tests::row::{RunInput, Shown, words_of};
 use sip_field::{Field, M61, draw_challenges};
 use sip_ports::TalkEvent;
 use sip_verifier::{Status, Task};
+use sip_words::{Command, read_words};
 use std::alloc::Global;
 use std::process::Abort;
 use std::test::Fail;

@@ -1,11 +1,12 @@
 // When the lines come that a run says on the way.
 use crate::progress_tests::{ASK_MOMENT_3, HEARD_NOTHING};
 use crate::ticking::{said, taker};
-use sip_cli::{ToldLink, ToldSource, read_words};
+use sip_cli::{ToldLink, ToldSource};
 use sip_command_tests::case::Case;
 use sip_command_tests::frames::*;
 use sip_command_tests::row::{link, words_of};
 use sip_ports::{Link, PortStop, Source, write_whole};
+use sip_words::read_words;
 use std::alloc::Global;
 use std::process::Abort;
 use std::test::Fail;

@@ -1,6 +1,6 @@
 // Runs against several helpers in the program.
 
-use sip_cli::{panel, read_words};
+use sip_cli::panel;
 use sip_command_tests::case::Case;
 use sip_command_tests::frames::ZERO_SEED;
 use sip_command_tests::play::BOTH_SIDES;
@@ -10,6 +10,7 @@ use sip_stream::Why;
 use sip_vector::Negatives;
 use sip_verifier::Status;
 use sip_wire::Reason;
+use sip_words::read_words;
 use std::alloc::Global;
 use std::process::Abort;
 use std::test::Fail;

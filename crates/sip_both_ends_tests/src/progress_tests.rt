@@ -3,12 +3,14 @@ ghost use Rattle.std.specs.Prelude.{◌≤◌};
 
 use crate::duel::{duel, heard, sent};
 use crate::ticking::{Ticking, said, taker};
-use sip_cli::{ToldLink, ToldSource, Words, exit_code, read_words, run};
+use sip_advice::exit_code;
+use sip_cli::{ToldLink, ToldSource, run};
 use sip_command_tests::case::Case;
 use sip_command_tests::frames::*;
 use sip_command_tests::row::{At, FIRST_GIVEN, Failing, RunInput, Shown, link, source, words_of};
 use sip_ports::{Link, MemoryLink, MemorySink, MemorySource, write_whole};
 use sip_verifier::Status;
+use sip_words::{Words, read_words};
 use std::alloc::Global;
 use std::process::Abort;
 use std::test::Fail;

@@ -7,8 +7,8 @@ use Rattle.sip_stream.specs.declared.form.Form.{Form}
 use Rattle.sip_verifier.specs.declared.status.Status.{Status}
 use Rattle.sip_verifier.specs.declared.status.Status.TheVariants as statuses
 use Rattle.sip_verifier.specs.Exchanges.{TakesAtMost}
-use Rattle.sip_cli.specs.declared.command.Command.{Command}
-use Rattle.sip_cli.specs.declared.command.Command.TheVariants.{Verify, Help, Audit, Show, Convert, Gen, Lines, Widen, Play, Lookup, HelpLook, Moments, HelpMoments, Panel}
+use Rattle.sip_words.specs.declared.command.Command.{Command}
+use Rattle.sip_words.specs.declared.command.Command.TheVariants.{Verify, Help, Audit, Show, Convert, Gen, Lines, Widen, Play, Lookup, HelpLook, Moments, HelpMoments, Panel}
 use Rattle.sip_cli.specs.CommandClause.{CommandClause}
 use Rattle.sip_cli.specs.DoneClause.{DoneClause, Used, Rests, Wanted, before_done, after_done}
 use Rattle.sip_cli.specs.Statuses.{IsCopy, IsHelp, IsRendering, IsUnkept, ReadsTranscript}

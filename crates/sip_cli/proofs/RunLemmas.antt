@@ -18,17 +18,17 @@ use Rattle.sip_verifier.specs.declared.status.Status.{Status}
 use Rattle.sip_verifier.specs.declared.status.Status.TheVariants as statuses
 use Rattle.sip_verifier.specs.declared.task.Task.{Task}
 use Rattle.sip_verifier.specs.Tasks.{CanBeAsked, CanBeDone}
-use Rattle.sip_cli.specs.declared.command.Command.{Command}
-use Rattle.sip_cli.specs.declared.command.Command.TheVariants.{Verify, Help, Audit, Show, Convert, Gen, Lines, Widen, Play, Lookup, HelpLook, Moments, HelpMoments, Panel}
-use Rattle.sip_cli.specs.declared.helper_name.HelperName.{HelperName}
-use Rattle.sip_cli.specs.declared.verb.Verb.{Verb}
-use Rattle.sip_cli.specs.declared.verb.Verb.TheVariants as verbs
+use Rattle.sip_words.specs.declared.command.Command.{Command}
+use Rattle.sip_words.specs.declared.command.Command.TheVariants.{Verify, Help, Audit, Show, Convert, Gen, Lines, Widen, Play, Lookup, HelpLook, Moments, HelpMoments, Panel}
+use Rattle.sip_words.specs.declared.helper_name.HelperName.{HelperName}
+use Rattle.sip_words.specs.declared.verb.Verb.{Verb}
+use Rattle.sip_words.specs.declared.verb.Verb.TheVariants as verbs
 use Rattle.sip_cli.specs.Statuses.{Ends}
-use Rattle.sip_cli.specs.Verbs.{least_asked, shapes}
-use Rattle.sip_cli.specs.Words.{IsCommandOf, SaysAll, SaysTask, Spells, IsRefusedAt, word}
+use Rattle.sip_words.specs.Verbs.{least_asked, shapes}
+use Rattle.sip_words.specs.Words.{IsCommandOf, SaysAll, SaysTask, Spells, IsRefusedAt, word}
 use Rattle.sip_wire.specs.Table.{most_queries}
-use Rattle.sip_cli.proofs.HelperWords.{count_named}
-use Rattle.sip_cli.proofs.Refusals.{refused_once, spelled_not_refused}
+use Rattle.sip_words.proofs.HelperWords.{count_named}
+use Rattle.sip_words.proofs.Refusals.{refused_once, spelled_not_refused}
 
 -- ---- tasks
 

@@ -17,11 +17,11 @@ use Rattle.sip_transcript.specs.Writing.{Writes}
 use Rattle.sip_transcript.proofs.AgreedAudits.{audit_agrees}
 use Rattle.sip_transcript.proofs.AlikeAudits.{told_agree}
 use Rattle.sip_transcript.proofs.Converted.{what_is_written}
-use Rattle.sip_cli.specs.declared.verb.Verb.{Verb}
-use Rattle.sip_cli.specs.declared.verb.Verb.TheVariants as verbs
+use Rattle.sip_words.specs.declared.verb.Verb.{Verb}
+use Rattle.sip_words.specs.declared.verb.Verb.TheVariants as verbs
 use Rattle.sip_cli.specs.Stored.{DidAudit, DidConvert, DidKeep}
-use Rattle.sip_cli.specs.Verbs.{most_asked}
-use Rattle.sip_cli.specs.Words.{IsCommandOf, SaysTask}
+use Rattle.sip_words.specs.Verbs.{most_asked}
+use Rattle.sip_words.specs.Words.{IsCommandOf, SaysTask}
 use Rattle.sip_cli.proofs.RunLemmas.{played, served}
 
 -- a command asks no more queries than a task has room for

@@ -5,8 +5,8 @@ use Rattle.sip_transcript.specs.Credits.{StoredNegatives}
 use Rattle.sip_verifier.specs.declared.status.Status.{Status}
 use Rattle.sip_verifier.specs.declared.task.Task.{Task}
 use Rattle.sip_verifier.specs.Negatives.{NegativesClause}
-use Rattle.sip_cli.specs.declared.command.Command.{Command}
-use Rattle.sip_cli.specs.declared.command.Command.TheVariants.{Audit, Verify, Play, Panel}
+use Rattle.sip_words.specs.declared.command.Command.{Command}
+use Rattle.sip_words.specs.declared.command.Command.TheVariants.{Audit, Verify, Play, Panel}
 
 -- what a run of a task tells, where its first two ports have these to give
 abbrev pub TellsOfRun : Task → Option (List ℕ) → Option (List ℕ) → Status → Negatives → Type 0

@@ -3,12 +3,12 @@
 use Rattle.std.specs.Prelude.{◌≡◌, ℕ, List, Some, None, IsSome}
 use Rattle.arrayvec.specs.ArrayVec.{ArrayVec}
 use Rattle.sip_cli.specs.CopyClause.{CopyClause}
-use Rattle.sip_cli.specs.declared.command.Command.{Command}
-use Rattle.sip_cli.specs.declared.command.Command.TheVariants.{Verify, Help, Audit, Show, Convert}
-use Rattle.sip_cli.specs.declared.command.Command.TheVariants.{Gen, Lines, Widen, Play, Lookup}
-use Rattle.sip_cli.specs.declared.command.Command.TheVariants.{HelpLook, Moments, HelpMoments}
-use Rattle.sip_cli.specs.declared.command.Command.TheVariants.{Panel}
-use Rattle.sip_cli.specs.declared.helper_name.HelperName.{HelperName}
+use Rattle.sip_words.specs.declared.command.Command.{Command}
+use Rattle.sip_words.specs.declared.command.Command.TheVariants.{Verify, Help, Audit, Show, Convert}
+use Rattle.sip_words.specs.declared.command.Command.TheVariants.{Gen, Lines, Widen, Play, Lookup}
+use Rattle.sip_words.specs.declared.command.Command.TheVariants.{HelpLook, Moments, HelpMoments}
+use Rattle.sip_words.specs.declared.command.Command.TheVariants.{Panel}
+use Rattle.sip_words.specs.declared.helper_name.HelperName.{HelperName}
 use Rattle.sip_cli.specs.HelpClause.{HelpClause}
 use Rattle.sip_cli.specs.Statuses.{Ends}
 use Rattle.sip_helper.specs.Serving.{Serves}

@@ -1,7 +1,7 @@
 -- All that a call does with its five ports where it does a command.
 use Rattle.std.specs.Prelude.{◌≡◌, ◌⊎◌, ℕ, List, Option}
-use Rattle.sip_cli.specs.declared.command.Command.{Command}
-use Rattle.sip_cli.specs.declared.command.Command.TheVariants.{Audit}
+use Rattle.sip_words.specs.declared.command.Command.{Command}
+use Rattle.sip_words.specs.declared.command.Command.TheVariants.{Audit}
 use Rattle.sip_cli.specs.CommandClause.{CommandClause}
 use Rattle.sip_cli.specs.Statuses.{IsCopy, IsHelp, IsRendering, IsUnkept, ReadsTranscript}
 use Rattle.sip_ports.specs.declared.port.TalkEvent.{TalkEvent}

@@ -1,18 +1,6 @@
-pub mod Words
-pub mod Shapes
-pub mod Verbs
-pub mod Plan
-pub mod Sparing
-pub mod Pages
-pub mod Quoting
-pub mod Noting
-pub mod Hints
 pub mod Telling
 pub mod ToldStream
 pub mod ToldTalk
-pub mod Behind
-pub mod Exit
-pub mod StatusLine
 pub mod CopyClause
 pub mod HelpClause
 pub mod PlayClause
@@ -22,4 +10,3 @@ pub mod CommandClause
 pub mod Checking
 pub mod DoneClause
 pub mod Stored
-pub mod inside

@@ -1,6 +1,6 @@
 -- The statuses that each command may answer.
-use Rattle.sip_cli.specs.declared.command.Command.{Command}
-use Rattle.sip_cli.specs.declared.command.Command.TheVariants as command
+use Rattle.sip_words.specs.declared.command.Command.{Command}
+use Rattle.sip_words.specs.declared.command.Command.TheVariants as command
 use Rattle.sip_verifier.specs.declared.status.Port.TheVariants as ports
 use Rattle.sip_verifier.specs.declared.status.Status.{Status}
 use Rattle.sip_verifier.specs.declared.status.Status.TheVariants as statuses

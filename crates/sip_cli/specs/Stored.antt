@@ -7,11 +7,11 @@ use Rattle.sip_verifier.specs.declared.task.Task.{Task}
 use Rattle.sip_verifier.specs.Exchanges.{Appends, Exchange, Tells}
 use Rattle.sip_verifier.specs.Snapshots.{Snapshot}
 use Rattle.sip_transcript.specs.Auditing.{TellsAudit, is_verdict, Audit as Audited}
-use Rattle.sip_cli.specs.declared.command.Command.{Command}
-use Rattle.sip_cli.specs.declared.command.Command.TheVariants.{Verify, Audit, Convert, Play}
-use Rattle.sip_cli.specs.declared.helper_name.HelperName.{HelperName}
+use Rattle.sip_words.specs.declared.command.Command.{Command}
+use Rattle.sip_words.specs.declared.command.Command.TheVariants.{Verify, Audit, Convert, Play}
+use Rattle.sip_words.specs.declared.helper_name.HelperName.{HelperName}
 use Rattle.sip_cli.specs.CommandClause.{CommandClause}
-use Rattle.sip_cli.specs.Words.{Spells}
+use Rattle.sip_words.specs.Words.{Spells}
 
 -- words spell this command, and all was kept that it keeps
 pub record Did (command : Command) (before now : Snapshot) (status : Status) : Type 0 where

@@ -7,8 +7,8 @@ use Rattle.sip_ports.specs.declared.port.TalkEvent.{TalkEvent}
 use Rattle.sip_stream.specs.declared.form.Form.{Form}
 use Rattle.sip_stream.specs.declared.form.Form.TheVariants.{Binary, Text, Wide}
 use Rattle.sip_stream.specs.Layouts.{made_form}
-use Rattle.sip_cli.specs.declared.command.Command.{Command}
-use Rattle.sip_cli.specs.declared.command.Command.TheVariants as command
+use Rattle.sip_words.specs.declared.command.Command.{Command}
+use Rattle.sip_words.specs.declared.command.Command.TheVariants as command
 use Rattle.sip_cli.specs.declared.told_source.Reading.{Reading}
 use Rattle.sip_cli.specs.declared.told_source.StreamTeller.{StreamTeller}
 use Rattle.sip_cli.specs.declared.told_source.ToldSource.{ToldSource}

@@ -12,8 +12,8 @@ use Rattle.sip_wire.specs.declared.message.Message.TheVariants as messages
 use Rattle.sip_wire.specs.declared.version.Version.{Version}
 use Rattle.sip_wire.specs.Reading.{read_frame}
 use Rattle.sip_verifier.specs.Tasks.{version_of}
-use Rattle.sip_cli.specs.declared.command.Command.{Command}
-use Rattle.sip_cli.specs.declared.command.Command.TheVariants as command
+use Rattle.sip_words.specs.declared.command.Command.{Command}
+use Rattle.sip_words.specs.declared.command.Command.TheVariants as command
 use Rattle.sip_cli.specs.declared.told_link.Script.{Script}
 use Rattle.sip_cli.specs.declared.told_link.Turn.{Turn}
 use Rattle.sip_cli.specs.declared.told_link.TalkTeller.{TalkTeller}

@@ -1,56 +1,40 @@
-//! The command `sip`: its words, its run, its exit code and the line of its status.
+//! The run of a command `sip`.
+//!
+//! [`obey`] makes one call for each command, and [`run`] reads words and does the same. [`play`]
+//! and [`panel`] do the commands whose helpers are in the program: they make them and the links to
+//! them, and hand neither out. [`ToldSource`] and [`ToldLink`] are ports over ports that say on the
+//! way how far a run is. What the words mean stands in `sip_words`, and what is printed beside the
+//! report in `sip_advice`, which knows no run.
+//!
+//! # The definitions to read
+//!
+//! | file of `specs/` | what it defines |
+//! |---|---|
+//! | `DoneClause` | all that a call does which does a command: what it keeps, which ports rest |
+//! | `CommandClause` | what each command keeps |
+//! | `CopyClause`, `HelpClause` | what is kept by commands that copy a stream, or serve a talk |
+//! | `PlayClause`, `PanelWordsClause` | the promises over the links to helpers in the program |
+//! | `Statuses` | the statuses of each command |
+//! | `Checking` | which commands tell which sides of a stream had a delta below 0 |
+//! | `Stored` | what commands left that an audit has |
+//! | `Telling`, `ToldStream`, `ToldTalk` | the lines of progress, and when each is due |
+//!
+//! [`laws`] says what an audit comes to that is given what another command left.
 #![tactic(auto)]
 
-mod advice;
-mod asked;
-mod command;
 mod copying;
-mod decimal;
-mod exit;
-mod helper_name;
 mod helping;
-mod hint_text;
 pub mod laws;
-mod lookup;
-mod moment;
-mod noted;
-mod page;
-mod page_text;
 mod panelling;
-mod place;
-mod plan;
 mod playing;
 mod progress;
-mod query;
-mod quoting;
-mod reason_text;
-mod shape;
-mod sparing;
-mod status_text;
-mod stream;
 mod told_link;
 mod told_source;
 mod top;
-mod verb;
-mod words;
 
-pub use advice::{HINT_ROOM, HintLine, has_seed, hint};
-pub use command::{Command, read_words};
-pub use exit::{Ending, exit_code, finish, status_without_words};
-pub use helper_name::HelperName;
-pub use noted::{Noted, SeedLook, Trouble, Unopened};
-pub use page::{page_of, page_without_file, write_page};
-pub use page_text::{
-    AUDIT_PART, CONVERT_PART, GEN_PART, HELP, HELP_PART, HELPLOOK_PART, HELPMOM_PART, LINES_PART,
-    LOOKUP_PART, MOMENTS_PART, PANEL_PART, PLAY_PART, SHOW_PART, VERIFY_PART, VERSION, WIDEN_PART,
-};
 pub use panelling::panel;
-pub use plan::{LinkOrder, Opening, PortPlan, ports};
 pub use playing::play;
 pub use progress::{Lines, OPENING_FROM, OPENING_TO};
-pub use sparing::{FileId, PlanFiles};
-pub use status_text::status_line;
 pub use told_link::ToldLink;
 pub use told_source::ToldSource;
 pub use top::{obey, run};
-pub use words::{Usage, Words};

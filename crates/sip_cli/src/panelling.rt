@@ -10,17 +10,17 @@ ghost use Rattle.sip_verifier.specs.Exchanges.{TakesAtMost};
 ghost use Rattle.sip_verifier.specs.Negatives.{NegativesClause};
 ghost use Rattle.sip_verifier.specs.Tasks.{CanBeDone};
 ghost use Rattle.sip_wire.specs.Table.{most_queries};
-ghost use Rattle.sip_cli.specs.declared.helper_name.HelperName.{HelperName as AnyName};
+ghost use Rattle.sip_words.specs.declared.helper_name.HelperName.{HelperName as AnyName};
 ghost use Rattle.sip_cli.specs.PanelWordsClause.{PanelWordsClause};
-ghost use Rattle.sip_cli.specs.Words.{IsSpelled};
+ghost use Rattle.sip_words.specs.Words.{IsSpelled};
 
 use crate::playing::{honest, skewed};
-use crate::{Command, HelperName};
 use sip_duel::{Helper, HelperLink, Mute};
 use sip_field::OutOfMemory;
 use sip_ports::{Sink, Source};
 use sip_vector::Negatives;
 use sip_verifier::{Status, Task};
+use sip_words::{Command, HelperName};
 use std::alloc::Global;
 
 // Does a task over links to the helpers of these names. Where memory is refused to one nothing is

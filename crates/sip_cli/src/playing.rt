@@ -11,16 +11,16 @@ ghost use Rattle.sip_verifier.specs.Exchanges.{TakesAtMost};
 ghost use Rattle.sip_verifier.specs.Negatives.{NegativesClause};
 ghost use Rattle.sip_verifier.specs.Snapshots.{port, snapshot, telling};
 ghost use Rattle.sip_verifier.specs.Tasks.{CanBeDone};
-ghost use Rattle.sip_cli.specs.declared.helper_name.HelperName.{HelperName as AnyName};
+ghost use Rattle.sip_words.specs.declared.helper_name.HelperName.{HelperName as AnyName};
 ghost use Rattle.sip_cli.specs.PlayClause.{PlayClause};
-ghost use Rattle.sip_cli.specs.Words.{IsSpelled};
+ghost use Rattle.sip_words.specs.Words.{IsSpelled};
 
-use crate::{Command, HelperName};
 use sip_duel::{Helper, HelperLink, Honest, Mute, MuteLink, Skewed, play_mute};
 use sip_field::OutOfMemory;
 use sip_ports::{Sink, Source};
 use sip_vector::Negatives;
 use sip_verifier::{Status, Task};
+use sip_words::{Command, HelperName};
 use std::alloc::Global;
 
 // The honest helper, on the heap. It is made in a call of its own, so that the stack has it no

@@ -3,7 +3,6 @@
 ghost use Rattle.std.specs.Prelude.{◌≡◌, ◌+◌, ◌≤◌, ◌++◌, ◌∷◌, [], length, decimal};
 ghost use Rattle.sip_cli.specs.Telling.{Says, from_line, reply_line, stream_line};
 
-use crate::status_text::{ROOM, numbered};
 use arrayvec::ArrayVec;
 use sip_ports::{Sink, write_whole};
 use sip_stream::text::{put, put_number};
@@ -16,6 +15,9 @@ pub(crate) const STEP: u64 = 1 << 26;
 pub(crate) const PAUSE: u64 = 3;
 
 const MEBIBYTE: u64 = 1 << 20;
+
+/// No line of progress is longer.
+const ROOM: usize = 256;
 
 /// The line before TO is opened, which waits where it is a FIFO.
 pub const OPENING_TO: &str = "sip: progress: waiting for the other side at TO\n";
@@ -71,11 +73,15 @@ pub(crate) fn reply_line(query: u8, round: u8) -> ArrayVec<u8, ROOM>
 pub(crate) fn from_line(bytes: u64) -> ArrayVec<u8, ROOM>
     ensures { result.items ≡ from_line bytes }
 {
-    numbered(
+    let mut gathered = ArrayVec::new();
+    put(
+        &mut gathered,
         b"sip: progress: waiting for the other side, ",
-        bytes / MEBIBYTE,
-        b" MiB of FROM read",
-    )
+    );
+    put_number(&mut gathered, bytes / MEBIBYTE);
+    put(&mut gathered, b" MiB of FROM read");
+    put(&mut gathered, b"\n");
+    gathered
 }
 
 /// What takes the lines of a run that says how far it is, and the clock that says when one is late.

@@ -13,12 +13,12 @@ ghost use Rattle.sip_cli.specs.ToldTalk.{SendsOn, TellsReceive, TellsWrite, awai
 ghost use Rattle.sip_cli.specs.ToldTalk.{hears_on, line_before, line_said, talk_teller, told_link};
 ghost use Rattle.sip_cli.specs.ToldTalk.{unsaid};
 
-use crate::Command;
 use crate::progress::{Lines, PAUSE, STEP, from_line, reply_line, say};
 use arrayvec::ArrayVec;
 use sip_ports::{Link, PortStop, Sink};
 use sip_vector::Query;
 use sip_wire::{MOST_QUERIES, Message, Place, Version, frame_length, read};
+use sip_words::Command;
 use std::time::Clock;
 
 /// The first byte of the frame of a query.

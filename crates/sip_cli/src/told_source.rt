@@ -11,10 +11,10 @@ ghost use Rattle.sip_cli.specs.ToldStream.{TellsRead, TellsSkip, feeds_in, is_du
 ghost use Rattle.sip_cli.specs.ToldStream.{line_said, read_more, records_in, stream_form};
 ghost use Rattle.sip_cli.specs.ToldStream.{stream_teller, told_source, unread};
 
-use crate::Command;
 use crate::progress::{Lines, PAUSE, STEP, say, stream_line};
 use sip_ports::{PortStop, Sink, Source};
 use sip_stream::Form;
+use sip_words::Command;
 use std::time::Clock;
 
 // The form of a command's stream.

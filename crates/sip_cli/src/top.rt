@@ -4,11 +4,10 @@ ghost use Rattle.std.specs.Prelude.{◌≡◌, ◌↔◌, ℕ};
 ghost use Rattle.sip_ports.specs.Ports.{Lasts};
 ghost use Rattle.sip_cli.specs.Checking.{TellsNegatives};
 ghost use Rattle.sip_cli.specs.DoneClause.{DoneClause, used};
-ghost use Rattle.sip_cli.specs.Words.{IsSpelled, Spells, IsRefusedAt};
+ghost use Rattle.sip_words.specs.Words.{IsSpelled, Spells, IsRefusedAt};
 
 use crate::copying::copy_stream;
 use crate::helping::{help, help_look, help_moments};
-use crate::{Command, Usage, Words, read_words};
 use sip_lookup::look_stream;
 use sip_moments::moment_stream;
 use sip_ports::{Link, Sink, Source};
@@ -16,6 +15,7 @@ use sip_stream::Form;
 use sip_transcript::{audit, convert, show};
 use sip_vector::Negatives;
 use sip_verifier::{Status, check_stream};
+use sip_words::{Command, Usage, Words, read_words};
 use std::alloc::Global;
 
 /// Does a command.

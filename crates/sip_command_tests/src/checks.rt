@@ -3,7 +3,7 @@ ghost use Rattle.std.specs.Prelude.{◌≤◌};
 
 use crate::case::Case;
 use crate::row::Row;
-use sip_cli::exit_code;
+use sip_advice::exit_code;
 use std::alloc::Global;
 use std::process::Abort;
 use std::test::Fail;

@@ -3,7 +3,7 @@ ghost use Rattle.std.specs.Prelude.{◌≤◌};
 
 use crate::case::Case;
 use crate::row::{At, Failing, Row};
-use sip_cli::exit_code;
+use sip_advice::exit_code;
 use sip_ports::TalkEvent;
 use sip_verifier::{Port, Status};
 use std::alloc::Global;

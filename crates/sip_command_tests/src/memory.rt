@@ -12,17 +12,17 @@ ghost use Rattle.sip_verifier.specs.declared.task.Task.{Task};
 ghost use Rattle.sip_verifier.specs.declared.status.Port.TheVariants as ports;
 ghost use Rattle.sip_verifier.specs.Exchanges.{Exchange};
 ghost use Rattle.sip_verifier.specs.Promises.{Promises};
-ghost use Rattle.sip_cli.specs.declared.command.Command.{Command};
-ghost use Rattle.sip_cli.specs.declared.command.Command.TheVariants.{Verify, Gen, Lines, Widen};
-ghost use Rattle.sip_cli.specs.declared.command.Command.TheVariants.{Help, Audit, Play, Show};
-ghost use Rattle.sip_cli.specs.declared.command.Command.TheVariants.{Convert, Lookup, HelpLook};
-ghost use Rattle.sip_cli.specs.declared.command.Command.TheVariants.{Moments, HelpMoments, Panel};
-ghost use Rattle.sip_cli.specs.declared.helper_name.HelperName.{HelperName};
+ghost use Rattle.sip_words.specs.declared.command.Command.{Command};
+ghost use Rattle.sip_words.specs.declared.command.Command.TheVariants.{Verify, Gen, Lines, Widen};
+ghost use Rattle.sip_words.specs.declared.command.Command.TheVariants.{Help, Audit, Play, Show};
+ghost use Rattle.sip_words.specs.declared.command.Command.TheVariants.{Convert, Lookup, HelpLook};
+ghost use Rattle.sip_words.specs.declared.command.Command.TheVariants.{Moments, HelpMoments, Panel};
+ghost use Rattle.sip_words.specs.declared.helper_name.HelperName.{HelperName};
 ghost use Rattle.sip_cli.specs.CommandClause.{MomentPromises, unkept};
 ghost use Rattle.sip_cli.specs.CopyClause.{CopyClause};
 ghost use Rattle.sip_cli.specs.HelpClause.{HelpClause};
 ghost use Rattle.sip_cli.specs.Statuses.{Ends};
-ghost use Rattle.sip_cli.specs.Words.{Spells, IsRefusedAt};
+ghost use Rattle.sip_words.specs.Words.{Spells, IsRefusedAt};
 ghost use Rattle.sip_helper.specs.Serving.{Serves};
 ghost use Rattle.sip_lookup.specs.declared.task.LookTask.{LookTask};
 ghost use Rattle.sip_lookup.specs.Promises.{LookPromises};
@@ -35,9 +35,10 @@ ghost use Rattle.sip_transcript.specs.Listings.{listing};
 ghost use Rattle.sip_transcript.specs.Writing.{Writes};
 ghost use Rattle.sip_command_tests.specs.Moves.{Moves, audit_of, held_by, faults_of};
 
-use sip_cli::{Words, run};
+use sip_cli::run;
 use sip_ports::{MemoryLink, MemorySink, MemorySource};
 use sip_verifier::Status;
+use sip_words::Words;
 use std::alloc::Global;
 
 /// Does what the words say over ports in memory.

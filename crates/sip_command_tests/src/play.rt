@@ -2,10 +2,11 @@
 
 use crate::frames::ZERO_SEED;
 use crate::row::words_of;
-use sip_cli::{play, read_words};
+use sip_cli::play;
 use sip_ports::{MemorySink, MemorySource};
 use sip_vector::Negatives;
 use sip_verifier::Status;
+use sip_words::read_words;
 use std::alloc::Global;
 use std::test::Fail;
 

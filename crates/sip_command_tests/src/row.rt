@@ -3,10 +3,10 @@ ghost use Rattle.std.specs.Prelude.{◌≤◌};
 
 use crate::frames::*;
 use crate::run_in_memory;
-use sip_cli::Words;
 use sip_ports::{MemoryLink, MemorySink, MemorySource, TalkEvent};
 use sip_verifier::Status;
 use sip_wire::Reason;
+use sip_words::Words;
 use std::alloc::Global;
 use std::test::Fail;
 

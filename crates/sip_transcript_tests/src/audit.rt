@@ -4,7 +4,7 @@
 ghost use Rattle.std.specs.Prelude.{◌≤◌};
 
 use crate::audit_frames::*;
-use sip_cli::exit_code;
+use sip_advice::exit_code;
 use sip_command_tests::case::Case;
 use sip_command_tests::frames::*;
 use sip_command_tests::row::{RunInput, bytes_of};

@@ -1,12 +1,12 @@
 // Words that are commands: what they ask for, and what they open.
 
 use crate::page_tests::words_between;
-use sip_cli::{Command, Opening, Words, ports, read_words};
 use sip_command_tests::case::Case;
 use sip_lookup::Lookup;
 use sip_moments::Moment;
 use sip_stream::Form;
 use sip_vector::{Query, Side};
+use sip_words::{Command, Opening, Words, ports, read_words};
 use std::alloc::Global;
 use std::process::Abort;
 use std::test::Fail;

@@ -1,6 +1,6 @@
 // The line and the exit code that each status has.
 
-use sip_cli::finish;
+use sip_advice::finish;
 use sip_command_tests::case::Case;
 use sip_ports::{MemorySink, PortStop};
 use sip_stream::Why;

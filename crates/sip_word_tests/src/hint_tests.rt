@@ -2,13 +2,14 @@
 
 use crate::noted_tests::NOTHING;
 use crate::page_tests::words_between;
-use sip_cli::{Words, finish, hint};
+use sip_advice::{finish, hint};
 use sip_command_tests::case::Case;
 use sip_ports::MemorySink;
 use sip_stream::Why;
 use sip_vector::Side;
 use sip_verifier::{Port, Status};
 use sip_wire::Reason;
+use sip_words::Words;
 use std::alloc::Global;
 use std::process::Abort;
 use std::str::from_utf8;

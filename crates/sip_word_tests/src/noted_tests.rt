@@ -1,7 +1,7 @@
 // What advice says of the files of a command.
 
 use crate::page_tests::words_between;
-use sip_cli::{Noted, SeedLook, Trouble, Unopened, finish, hint};
+use sip_advice::{Noted, SeedLook, Trouble, Unopened, finish, hint};
 use sip_command_tests::case::Case;
 use sip_ports::MemorySink;
 use sip_vector::Negatives;

@@ -1,9 +1,10 @@
 // The pages that one word asks for.
 
-use sip_cli::{HELP, VERSION, Words, page_of, read_words, write_page};
+use sip_advice::{HELP, VERSION, page_of, write_page};
 use sip_command_tests::case::Case;
 use sip_ports::MemorySink;
 use sip_verifier::{Port, Status};
+use sip_words::{Words, read_words};
 use std::alloc::Global;
 use std::process::Abort;
 use std::test::Fail;

@@ -1,7 +1,7 @@
 // The words that ask for a text, and what the page says.
 
 use crate::page_tests::words_between;
-use sip_cli::{
+use sip_advice::{
     AUDIT_PART, CONVERT_PART, GEN_PART, HELP, HELP_PART, HELPLOOK_PART, HELPMOM_PART, LINES_PART,
     LOOKUP_PART, MOMENTS_PART, PANEL_PART, PLAY_PART, SHOW_PART, VERIFY_PART, VERSION, WIDEN_PART,
     page_of, page_without_file,

@@ -1,8 +1,8 @@
 // Words that are no command, and which of them no command has behind those before.
 
 use crate::page_tests::words_between;
-use sip_cli::{Usage, Words, read_words};
 use sip_command_tests::case::Case;
+use sip_words::{Usage, Words, read_words};
 use std::alloc::Global;
 use std::process::Abort;
 use std::test::Fail;

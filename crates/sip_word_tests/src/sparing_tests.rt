@@ -1,8 +1,8 @@
 // Which outputs are not opened, by the files that the openings are on.
 
 use crate::page_tests::words_between;
-use sip_cli::{FileId, Opening, PlanFiles, PortPlan, ports, read_words};
 use sip_command_tests::case::Case;
+use sip_words::{FileId, Opening, PlanFiles, PortPlan, ports, read_words};
 use std::process::Abort;
 use std::test::Fail;
 

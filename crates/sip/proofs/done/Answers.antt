@@ -1,5 +1,5 @@
 use Rattle.std.proofs.Common.{inr}
-use Rattle.sip_cli.proofs.Refusals.{spelled_not_refused}
+use Rattle.sip_words.proofs.Refusals.{spelled_not_refused}
 use Rattle.sip.proofs.Endings.{never_of_page}
 use Rattle.sip.proofs.done.Goals as goal
 

@@ -1,5 +1,5 @@
 use Rattle.sip_cli.specs.Statuses.{Ends}
-use Rattle.sip_cli.proofs.Refusals.{spelled_not_refused}
+use Rattle.sip_words.proofs.Refusals.{spelled_not_refused}
 use Rattle.sip_cli.proofs.RunLemmas.{usage_never}
 use Rattle.sip.proofs.Endings.{ends_or_wants, never_of_page}
 use Rattle.sip.proofs.obey_command.Goals as goal

@@ -1,6 +1,6 @@
 use Rattle.std.proofs.Common.{subst}
 use Rattle.sip_cli.specs.Statuses.{Ends}
-use Rattle.sip_cli.proofs.Refusals.{command_once, spelled_not_refused}
+use Rattle.sip_words.proofs.Refusals.{command_once, spelled_not_refused}
 use Rattle.sip_cli.proofs.RunLemmas.{usage_at}
 use Rattle.sip.proofs.obey_words.Goals as goal
 

@@ -1,6 +1,6 @@
 use Rattle.std.proofs.Common.{◌≡◌, false, true, inr, subst, rules}
-use Rattle.sip_cli.specs.Words.{Spells, word}
-use Rattle.sip_cli.proofs.HelperWords.{some_named}
+use Rattle.sip_words.specs.Words.{Spells, word}
+use Rattle.sip_words.proofs.HelperWords.{some_named}
 use Rattle.sip_cli.proofs.PanelLemmas.{unbegun}
 use Rattle.sip_cli.proofs.RunLemmas.{seated, seats_for_all}
 use Rattle.sip_cli.proofs.panelling.panel.Goals as goal

@@ -1,5 +1,5 @@
 use Rattle.std.proofs.Common.{◌≡◌, [], false, true, refl, inl, inr, subst, rules}
-use Rattle.sip_cli.specs.Words.{Spells}
+use Rattle.sip_words.specs.Words.{Spells}
 use Rattle.sip_cli.proofs.PlayLemmas.{nothing_is_honest, unbegun}
 use Rattle.sip_cli.proofs.RunLemmas.{played_task}
 use Rattle.sip_cli.proofs.playing.play.Goals as goal

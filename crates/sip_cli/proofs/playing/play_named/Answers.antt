@@ -1,5 +1,5 @@
 use Rattle.std.proofs.Common.{◌≡◌, [], sym, ◌∙◌}
-use Rattle.sip_cli.specs.declared.helper_name.HelperName.TheVariants.{Honest, Mute}
+use Rattle.sip_words.specs.declared.helper_name.HelperName.TheVariants.{Honest, Mute}
 use Rattle.sip_cli.proofs.PlayLemmas.{tells_on}
 use Rattle.sip_cli.proofs.playing.play_named.Goals as goal
 use Rattle.sip_cli.proofs.playing.play_named.Goals.{in-Honest+in_ok-honest-in-Honest+in_ok-link-in-Honest, in-Skewed+in_ok-skewed-in-Skewed+in_ok-link-in-Skewed}

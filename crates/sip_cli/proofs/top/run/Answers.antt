@@ -1,10 +1,10 @@
 use Rattle.std.proofs.Common.{refl, subst}
 use Rattle.sip_cli.proofs.CommandKeeps.{none_keeps}
 use Rattle.sip_cli.proofs.DoneLemmas.{done_by, none_done}
-use Rattle.sip_cli.proofs.Refusals.{command_once, spelled_not_refused}
+use Rattle.sip_words.proofs.Refusals.{command_once, spelled_not_refused}
 use Rattle.sip_cli.proofs.RunLemmas.{never_usage, usage_at, usage_never}
-use Rattle.sip_cli.specs.declared.command.Command.{Command}
-use Rattle.sip_cli.specs.Words.{Spells}
+use Rattle.sip_words.specs.declared.command.Command.{Command}
+use Rattle.sip_words.specs.Words.{Spells}
 use Rattle.sip_cli.proofs.top.run.Goals as goal
 
 pub obey-requires : goal.obey-requires

@@ -1,9 +1,0 @@
-use Rattle.sip_cli.proofs.MadePorts.{opens_counted}
-use Rattle.sip_cli.proofs.NamedPorts.{opens_named}
-use Rattle.sip_cli.proofs.plan.ports.Goals as goal
-
-pub returns-clause-counted : goal.returns-clause-counted
-returns-clause-counted c = λ number count depth is. opens_counted c.args.words.now c.args.command.now c.of.result (c.of.ensures c.requires) number count depth is
-
-pub returns-clause-named : goal.returns-clause-named
-returns-clause-named c = opens_named c.args.words.now c.args.command.now c.of.result c.requires (c.of.ensures c.requires)

@@ -1,0 +1,14 @@
+pub mod Decimals
+pub mod QueryWords
+pub mod HelperWords
+pub mod LookWords
+pub mod MomentWords
+pub mod Beginning
+pub mod Stopping
+pub mod StreamWords
+pub mod MadePorts
+pub mod Refusals
+pub mod Getting
+pub mod Alone
+pub mod Behind
+pub mod NamedPorts

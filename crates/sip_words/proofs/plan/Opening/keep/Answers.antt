@@ -1,0 +1,15 @@
+use Rattle.std.proofs.Common.{ℕ, List, Option, None, Some, Bor, sym, subst, arith}
+use Rattle.sip_words.specs.Plan.{IsRecord}
+use Rattle.sip_words.proofs.Getting.{got}
+use Rattle.sip_words.proofs.plan.Opening.keep.Goals as goal
+
+pub returns-in-Some : goal.returns-in-Some
+returns-in-Some c = λ more.
+    let found = got c.args.words.now c.args.word (Some c.in-Some.name) c.in-Some.ensures in
+    subst (λ w. IsRecord w c.args.word c.record.result) (sym found.1) c.record.ensures
+
+pub returns-in-None : goal.returns-in-None
+returns-in-None c = λ more.
+    let absent : Option (Bor (List ℕ)) = None in
+    let short = got c.args.words.now c.args.word absent c.in-None.ensures in
+    absurd (omega arith)

@@ -1,0 +1,77 @@
+//! Which outputs are not opened, since they would empty a file of the same command.
+
+ghost use Rattle.std.specs.Prelude.{◌≡◌, ◌↔◌, IsTrue, [], ◌∷◌};
+ghost use Rattle.sip_words.specs.Sparing.{IsAmong, OpensUnless, Spares};
+
+use crate::{Opening, PortPlan};
+
+/// A regular file, which may have several names, as the system tells it from all others.
+#[derive(Clone, Copy, Debug, PartialEq, Eq)]
+pub struct FileId {
+    /// The number of the device that the file is on.
+    pub device: u64,
+    /// The file's number on it.
+    pub inode: u64,
+}
+
+/// What the openings of a plan are on: a regular file, or `None` where there is none yet, or where
+/// it is something else, as a FIFO or a device.
+#[derive(Clone, Copy, Debug, PartialEq, Eq)]
+pub struct PlanFiles {
+    /// The file of the stream.
+    pub first: Option<FileId>,
+    /// That of the seed or of the transcript.
+    pub second: Option<FileId>,
+    /// That which brings what the other side sends.
+    pub from: Option<FileId>,
+    /// That which gets what is sent.
+    pub to: Option<FileId>,
+    /// That which gets the transcript of the run.
+    pub keep: Option<FileId>,
+}
+
+// Whether a file is one of these.
+fn is_among(file: Option<FileId>, others: [Option<FileId>; 4]) -> bool
+    ensures { IsTrue result ↔ IsAmong file others }
+{
+    match file {
+        Some(_) => {
+            let [first, second, third, fourth] = others;
+            file == first || file == second || file == third || file == fourth
+        }
+        None => false,
+    }
+}
+
+// The opening, or none where its file is one of these.
+fn unless(opening: Opening, file: Option<FileId>, others: [Option<FileId>; 4]) -> Opening
+    ensures { OpensUnless (IsAmong file others) opening result }
+{
+    if is_among(file, others) {
+        Opening::Spared
+    } else {
+        opening
+    }
+}
+
+impl PortPlan {
+    /// The plan with the outputs left out that are files of another opening: TO and the file of the
+    /// transcript, each of which would be emptied. What these are on is asked before anything is
+    /// opened.
+    pub fn sparing(&self, files: &PlanFiles) -> PortPlan
+        ensures { Spares files.now self.now result }
+    {
+        let PlanFiles {
+            first,
+            second,
+            from,
+            to,
+            keep,
+        } = *files;
+        PortPlan {
+            to: unless(self.to, to, [first, second, from, keep]),
+            keep: unless(self.keep, keep, [first, second, from, to]),
+            ..*self
+        }
+    }
+}
