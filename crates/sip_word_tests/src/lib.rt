@@ -23,4 +23,8 @@ mod refused_panel_tests;
 #[cfg(test)]
 mod refused_words_tests;
 #[cfg(test)]
+mod sketch_ending_tests;
+#[cfg(test)]
+mod sketch_words_tests;
+#[cfg(test)]
 mod sparing_tests;

@@ -1,0 +1,5 @@
+pub mod Refusing
+pub mod Words
+pub mod SketchPlan
+pub mod Endings
+pub mod inside
