@@ -2,4 +2,5 @@ pub mod Refusing
 pub mod Words
 pub mod SketchPlan
 pub mod Endings
+pub mod SketchClause
 pub mod inside

@@ -112,6 +112,10 @@ Spells (command.Watch form at every) words = SpellsWatch form at every words
 Spells (command.Merge parts) words = SpellsMerge parts words
 Spells command.Seats words = SpellsSeats words
 
+-- some words are those of the command
+abbrev pub IsSpelled : SketchCommand → Type 0
+IsSpelled command = (words : List (List ℕ)) × Spells command words
+
 -- where they are refused
 abbrev pub IsRefusedAt : List (List ℕ) → ℕ → Type 0
 IsRefusedAt words n = AreRefusedAt Spells words n

@@ -4,7 +4,8 @@
 //! ([`sketch_verb`]). [`read_sketch_words`] answers the [`SketchCommand`] that words are, or the
 //! number of the first word such that the words up to it begin none. [`sketch_ports`] and
 //! [`file_opening`] say what a command opens, under which name. [`finish_sketch`] writes the line
-//! of a status and answers the exit code. No call takes memory.
+//! of a status and answers the exit code. None of these takes memory. [`obey_sketch`] does a
+//! command.
 //!
 //! # The definitions to read
 //!
@@ -14,12 +15,14 @@
 //! | `Refusing` | the same of whatever commands: the first word that begins none |
 //! | `SketchPlan` | which files a command opens, and that its words name them |
 //! | `Endings` | the code and the line of each status |
+//! | `SketchClause` | what a run did of each command, and which ports rest |
 //!
 //! `specs/inside/` says how far words were read. No promise rests on a reading of it.
 #![tactic(auto)]
 
 mod command;
 mod ending;
+mod obeying;
 mod one_word;
 mod seats;
 mod sketch_plan;
@@ -27,6 +30,7 @@ mod verb;
 
 pub use command::{SketchCommand, read_sketch_words};
 pub use ending::{finish_sketch, shared_status};
+pub use obeying::obey_sketch;
 pub use seats::MOST_SEATS;
 pub use sketch_plan::{SketchPlan, file_opening, sketch_ports};
 pub use verb::{SketchVerb, sketch_verb};
