@@ -1,5 +1,5 @@
 -- What a helper of questions keeps while it hears messages.
-use Rattle.std.proofs.Common.{◌≡◌, ℕ, ◌+◌, ◌-◌, ◌<◌, Bool, true, false, Option, Some, None, Result, Ok, Err, refl, sym, ap, subst, ◌∙◌}
+use Rattle.std.proofs.Common.{◌≡◌, ℕ, ◌<◌, Bool, true, false, Option, Some, None, Result, Ok, Err, refl, sym, ap, subst, ◌∙◌}
 use Rattle.std.specs.Prelude.{IfSome, IsOk, IsTrue, OnOk, ◌↔◌, not}
 use Rattle.std.specs.Option.{is_some, option_map}
 use Rattle.sip_wire.specs.declared.message.Message.{Message}

@@ -1,7 +1,7 @@
 -- What a helper has heard of a store.
-use Rattle.std.proofs.Common.{◌≡◌, ◌≢◌, ℕ, pos, ◌+◌, ◌^◌, ◌<◌, ◌≤◌, Bool, true, false, ◌&&◌, ◌||◌, nat_lt, nat_le, if◌then◌else◌, List, [], ◌∷◌, ◌++◌, length, Option, Some, None, refl, sym, ap, subst, ◌∙◌, arith, inl, inr}
+use Rattle.std.proofs.Common.{◌≡◌, ◌≢◌, ℕ, pos, ◌+◌, ◌^◌, ◌<◌, ◌≤◌, Bool, true, false, ◌||◌, nat_lt, if◌then◌else◌, List, [], ◌∷◌, ◌++◌, Option, Some, None, refl, sym, ap, subst, ◌∙◌, arith}
 use Rattle.std.specs.Prelude.{All, IsTrue, MatchOption, get_or, is_none}
-use Rattle.std.specs.List.{fold, list_all}
+use Rattle.std.specs.List.{list_all}
 use Rattle.std.specs.Option.{option_map}
 use Rattle.std.proofs.lemmas.Bool.{and_from, and_parts, le-leb, lt-ltb}
 use Rattle.std.proofs.lemmas.List.Sums.{fold-append, list_all-from_AllPass}
@@ -21,14 +21,14 @@ use Rattle.sip_helper.specs.declared.heard.Heard.TheVariants.{Nothing, Part, Who
 use Rattle.sip_helper.specs.declared.vectors.Weights.{Weights}
 use Rattle.sip_helper.specs.Shown.{opened, shown_vector}
 use Rattle.sip_helper.specs.Streams.{stream_heard}
-use Rattle.sip_helper.specs.Turns.{HelperState, fresh, is_allowed, is_light, part_of, stays_legal, step, weights_after, with_updates}
+use Rattle.sip_helper.specs.Turns.{HelperState, fresh, is_allowed, part_of, stays_legal, step, weights_after, with_updates}
 use Rattle.sip_helper.specs.Vectors.{Vectors}
 use Rattle.sip_vector.specs.declared.tally.Tally.{Tally}
 use Rattle.sip_vector.specs.Tallies.{tally}
 use Rattle.sip_stream.specs.declared.form.Form.{Form}
 use Rattle.sip_stream.specs.Reading.{IsAfter, Reading, behind}
 use Rattle.sip_questions.specs.StoreFronts.{held_of}
-use Rattle.sip_questions.specs.inside.StoreHearing.{HasHeard, HearsOn, IsAsFar, Takes}
+use Rattle.sip_questions.specs.inside.StoreHearing.{HasHeard, HearsOn, IsAsFar}
 use Rattle.sip_questions.proofs.StoreReading.{takes_more, takes_none}
 
 -- ---- updates may come

@@ -1,11 +1,10 @@
 -- How a talk over a store ends.
-use Rattle.std.proofs.Common.{◌≡◌, ℕ, ◌+◌, ◌<◌, ◌^◌, List, [], ◌∷◌, ◌++◌, length, take, Option, Some, None, Ok, Err, refl, sym, ap, subst, ◌∙◌, append-nil, inl, inr, arith}
+use Rattle.std.proofs.Common.{◌≡◌, ℕ, ◌<◌, ◌^◌, List, [], length, Option, Ok, Err, refl, ap, subst, ◌∙◌, inl, inr, arith}
 use Rattle.std.specs.Prelude.{IsTrue}
 use Rattle.std.proofs.lemmas.Bool.Decides.{nat_tests}
 use Rattle.sip_ports.specs.declared.port.PortStop.{PortStop}
-use Rattle.sip_ports.specs.declared.port.PortStop.TheVariants as stops
 use Rattle.sip_ports.specs.declared.port.TalkEvent.{TalkEvent}
-use Rattle.sip_ports.specs.Ports.{GoesOn, SendsWhole, Writes, ins, outs, written}
+use Rattle.sip_ports.specs.Ports.{GoesOn, SendsWhole, Writes, ins, outs}
 use Rattle.sip_ports.proofs.TalkLemmas.{GoesOn-refl, GoesOn-trans, Writes-of_GoesOn, written-ins}
 use Rattle.sip_stream.specs.declared.form.Form.{Form}
 use Rattle.sip_vector.specs.declared.update.Update.{Update}
@@ -18,17 +17,15 @@ use Rattle.sip_wire.specs.Spelling.{all_hold, fits, has_room, spelling}
 use Rattle.sip_wire.proofs.ReadingLaws.{asked-least, read_frame-closed}
 use Rattle.sip_helper.specs.declared.status.HelpStatus.{HelpStatus}
 use Rattle.sip_helper.specs.declared.status.HelpStatus.TheVariants as helps
-use Rattle.sip_helper.specs.OneTurn.{StopsTurn}
 use Rattle.sip_helper.specs.Rules.{ServesOn}
 use Rattle.sip_helper.specs.Statuses.{status_of_stop}
-use Rattle.sip_helper.specs.Streams.{stream_heard}
-use Rattle.sip_helper.specs.Turns.{HelperState, version_opened}
+use Rattle.sip_helper.specs.Turns.{HelperState}
 use Rattle.sip_questions.specs.declared.store.Asked.{Asked}
 use Rattle.sip_questions.specs.declared.store_status.StoreStatus.{StoreStatus}
 use Rattle.sip_questions.specs.declared.store_status.StoreStatus.TheVariants as statuses
 use Rattle.sip_questions.specs.Serving.{QuestionHelper, fresh_questions, question_rules}
-use Rattle.sip_questions.specs.StoreFronts.{Hears, asked_for, held_frame, held_of}
-use Rattle.sip_questions.specs.Stores.{AnswersOn, EndsAtHeld, EndsUnasked, EndsUnheard, ServesStore, status_of, store_heard}
+use Rattle.sip_questions.specs.StoreFronts.{asked_for, held_frame, held_of}
+use Rattle.sip_questions.specs.Stores.{ServesStore, status_of, store_heard}
 use Rattle.sip_questions.specs.inside.StoreHearing.{HearsStore}
 use Rattle.sip_questions.specs.inside.StoreTurns.{IsAsked, OpensStore}
 

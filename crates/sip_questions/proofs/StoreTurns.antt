@@ -1,7 +1,6 @@
 -- The two messages that a talk over a store begins with.
-use Rattle.std.proofs.Common.{◌≡◌, ℕ, ◌+◌, Bool, true, false, List, [], ◌++◌, length, Option, Some, None, refl, sym, ap, subst, ◌∙◌, append-nil, append_assoc, length-append, inl, inr, arith}
+use Rattle.std.proofs.Common.{◌≡◌, ℕ, ◌+◌, Bool, true, false, List, [], ◌++◌, length, Option, Some, sym, ap, subst, ◌∙◌, append-nil, length-append}
 use Rattle.std.specs.Prelude.{IsTrue}
-use Rattle.std.proofs.lemmas.Bool.{both_ways}
 use Rattle.sip_ports.specs.declared.port.TalkEvent.{TalkEvent}
 use Rattle.sip_ports.specs.Ports.{GoesOn, ins, outs}
 use Rattle.sip_ports.proofs.TalkLemmas.{GoesOn-trans, ins-append}
@@ -13,12 +12,12 @@ use Rattle.sip_wire.specs.declared.version.Version.TheVariants.{One}
 use Rattle.sip_wire.specs.Spelling.{spelling}
 use Rattle.sip_helper.specs.declared.status.HelpStatus.{HelpStatus}
 use Rattle.sip_helper.specs.OneTurn.{StopsTurn, Taken}
-use Rattle.sip_helper.specs.Rules.{EndsAs, IsMessageAt, Turn}
+use Rattle.sip_helper.specs.Rules.{EndsAs, IsMessageAt}
 use Rattle.sip_helper.specs.Turns.{version_opened}
 use Rattle.sip_questions.specs.declared.recalling.Recalling.{Recalling}
 use Rattle.sip_questions.specs.declared.store.Asked.{Asked}
 use Rattle.sip_questions.specs.Serving.{QuestionHelper, after_answer, fresh_questions, is_allowed, question_rules, step}
-use Rattle.sip_questions.specs.StoreFronts.{IsOpening, Recalls, asked_for, opening}
+use Rattle.sip_questions.specs.StoreFronts.{IsOpening, opening}
 use Rattle.sip_questions.specs.Stores.{StopsAtRecall, awaiting, may_recall, recall_rules, recall_step}
 use Rattle.sip_questions.specs.inside.StoreTurns.{IsAsked}
 

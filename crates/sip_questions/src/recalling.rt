@@ -30,7 +30,8 @@ impl Recalling {
 }
 
 impl Helps for Recalling {
-    ghost use Rattle.std.specs.Prelude.{false, true};
+    ghost use Rattle.std.specs.Prelude.{true};
+    ghost use Rattle.std.specs.Option.{is_some};
     ghost use Rattle.sip_questions.specs.Stores.{recall_rules};
     ghost use Rattle.sip_questions.specs.inside.StoreTurns.{recalls_left};
 
@@ -40,7 +41,7 @@ impl Helps for Recalling {
 
     ghost is_live = { λ s. true };
 
-    ghost is_owing = { λ s. false };
+    ghost is_owing = { λ s. is_some s.count };
 
     fn version_due(&self) -> Version {
         self.version
@@ -60,13 +61,14 @@ impl Helps for Recalling {
     }
 
     fn owes_reply(&self) -> bool {
-        false
+        self.count.is_some()
     }
 
     fn is_over(&self) -> bool {
         self.done
     }
 
+    // What is owed behind the count is said once the records were heard: by these rules, nothing.
     fn send_reply<K: Sink>(&mut self, _out: &mut K) -> Result<(), PortStop> {
         Ok(())
     }

@@ -1,5 +1,5 @@
 -- The two messages that a talk over a store begins with.
-use Rattle.std.proofs.Common.{◌≡◌, length, ap, arith, inr, subst}
+use Rattle.std.proofs.Common.{length, ap, arith, inr}
 use Rattle.std.proofs.lemmas.Result.{err_from_is_err_and}
 use Rattle.sip_wire.specs.Frames.{frame_bytes}
 use Rattle.sip_questions.proofs.StoreTurns.{asks, opens, recalls, stops_at_recall, version_then}

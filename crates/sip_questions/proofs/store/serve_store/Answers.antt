@@ -1,5 +1,5 @@
 -- How a talk over a store ends, by where.
-use Rattle.std.proofs.Common.{◌≡◌, ap, inl, ◌∙◌}
+use Rattle.std.proofs.Common.{ap, inl, ◌∙◌}
 use Rattle.sip_questions.specs.Serving.{QuestionHelper}
 use Rattle.sip_questions.specs.StoreFronts.{asked_for}
 use Rattle.sip_questions.proofs.StoreTalks.{answers_then, held_cut, unasked_at_once, unheard_then, writes_nothing}

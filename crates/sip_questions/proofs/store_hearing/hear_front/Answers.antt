@@ -1,5 +1,5 @@
 -- One block behind another.
-use Rattle.std.proofs.Common.{◌≡◌, ◌<◌, ◌≤◌, ◌+◌, ◌-◌, ◌++◌, [], drop, length, length-append, length-drop, arith}
+use Rattle.std.proofs.Common.{◌≤◌, ◌+◌, ◌++◌, [], drop, length, length-append, length-drop, arith}
 use Rattle.std.proofs.lemmas.List.{length-take-le}
 use Rattle.std.proofs.lemmas.Result.{err_from_is_err_and}
 use Rattle.sip_ports.proofs.FaultLemmas.{Lasts-refl, Lasts-trans}

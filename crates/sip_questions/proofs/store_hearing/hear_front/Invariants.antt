@@ -1,5 +1,5 @@
 -- So many records were heard, and so many are left to be heard.
-use Rattle.std.proofs.Common.{◌≡◌, ◌+◌, ◌<◌, ℕ, List, [], length}
+use Rattle.std.proofs.Common.{◌≡◌, ◌+◌, ◌<◌, List, [], length}
 use Rattle.sip_ports.specs.Ports.{Lasts}
 use Rattle.sip_stream.specs.Reading.{IsAfter}
 use Rattle.sip_vector.specs.declared.update.Update.{Update}

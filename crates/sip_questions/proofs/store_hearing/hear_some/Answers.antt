@@ -1,5 +1,5 @@
 -- Records that a reader took may come.
-use Rattle.std.proofs.Common.{◌≡◌, ◌≤◌, true, false, length, rules, take, arith}
+use Rattle.std.proofs.Common.{◌≡◌, true, false, rules, take, arith}
 use Rattle.std.specs.Prelude.{is_err}
 use Rattle.std.proofs.lemmas.Bool.{both_ways}
 use Rattle.std.proofs.lemmas.List.{length-take-le}

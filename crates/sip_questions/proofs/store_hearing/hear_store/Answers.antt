@@ -1,9 +1,8 @@
 -- The front that was asked for was heard, and what it comes to is told.
-use Rattle.std.proofs.Common.{rules, ◌≡◌, ℕ, ◌≤◌, ◌<◌, ◌++◌, Err, List, Option, Some, false, length, [], ap, sym, subst, ◌∙◌}
+use Rattle.std.proofs.Common.{rules, ◌≡◌, ◌≤◌, ◌<◌, Err, Some, false, length, [], ap, sym, subst, ◌∙◌}
 use Rattle.std.specs.Prelude.{is_err, is_none}
 use Rattle.std.proofs.lemmas.Result.{err_from_is_err_and}
 use Rattle.sip_vector.specs.declared.tally.Tally.{Tally}
-use Rattle.sip_vector.specs.declared.update.Update.{Update}
 use Rattle.sip_vector.specs.Tallies.{tally}
 use Rattle.sip_wire.specs.declared.message.Message.TheVariants as messages
 use Rattle.sip_helper.specs.Turns.{HelperState, step}

@@ -1,5 +1,5 @@
 -- What the source held, or else the next record.
-use Rattle.std.proofs.Common.{◌≡◌, ◌<◌, false, List, [], length, sym, subst, arith}
+use Rattle.std.proofs.Common.{◌<◌, List, [], length, sym, subst, arith}
 use Rattle.std.proofs.lemmas.Result.{err_from_is_err_and}
 use Rattle.sip_vector.specs.declared.update.Update.{Update}
 use Rattle.sip_questions.specs.inside.StoreHearing.{Takes}
