@@ -5,6 +5,8 @@
 #[cfg(test)]
 mod facts;
 #[cfg(test)]
+mod question_ask_tests;
+#[cfg(test)]
 mod question_serve_tests;
 #[cfg(test)]
 mod store_tests;
