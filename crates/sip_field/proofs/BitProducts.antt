@@ -88,15 +88,15 @@ module _ (p : ℕ) (zero_of : ℕ → ℕ) (above : 1 < p) where
   -- of the path
   pub one_table : (start index : ℕ) (seat : List ℕ) (tables : List (List ℕ)) (k path u v : ℕ) → AreTables p zero_of seat tables → k < length tables →
       path < 2 ^ length (drop (7 * k) seat) →
-      v ≡ product_mod p u (get_or (get_or tables k []) (path % 128) 0) →
+      ((y : ℕ) → get_or (get_or tables k []) (path % 128) 0 ≡ 8 * y → v ≡ product_mod p u y) →
       (u * bits_product p zero_of path (drop (7 * k) seat)) % p ≡ (start * bits_product p zero_of index seat) % p →
       (v * bits_product p zero_of (path / 128) (drop (7 * (k + 1)) seat)) % p ≡ (start * bits_product p zero_of index seat) % p
   one_table start index seat tables k path u v are within inside made before =
       let rs : List ℕ = drop (7 * k) seat in
       let a : ℕ = bits_product p zero_of (path % 128) (take 7 rs) in
       let b : ℕ = bits_product p zero_of (path / 128) (drop 7 rs) in
-      let entry : get_or (get_or tables k []) (path % 128) 0 ≡ a = are k within (path % 128) (low_part 7 path rs inside) in
-      rw (seven_more k seat, made, entry)
+      let entry : get_or (get_or tables k []) (path % 128) 0 ≡ 8 * a = are k within (path % 128) (low_part 7 path rs inside) in
+      rw (seven_more k seat, made a entry)
       (mul-mod_first (u * a) b p ∙ ap (λ y. y % p) (let same : u * a * b ≡ u * (a * b) = omega arith in same) ∙ sym (mul-mod_second u (a * b) p)
       ∙ ap (λ w. (u * w) % p) (sym (split_product path 7 rs)) ∙ before)
 

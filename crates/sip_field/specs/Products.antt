@@ -17,10 +17,10 @@ bits_product p zero i [] = 1
 bits_product p zero i (r ∷ challenges) =
     ((if i % 2 == 1 then r else zero r) * bits_product p zero (i / 2) challenges) % p
 
--- entry e of a table is the product of e under these challenges
+-- entry e of a table is the product of e under these challenges, eight times
 abbrev pub HasProducts : ℕ → (ℕ → ℕ) → List ℕ → List ℕ → Type 0
 HasProducts p zero challenges table =
-    (e : ℕ) → e < 2 ^ length challenges → slice_index table e ≡ bits_product p zero e challenges
+    (e : ℕ) → e < 2 ^ length challenges → slice_index table e ≡ 8 * bits_product p zero e challenges
 
 -- table g is that of the seven challenges from 7 * g on, or of those that are left
 abbrev pub AreTables : ℕ → (ℕ → ℕ) → List ℕ → List (List ℕ) → Type 0

@@ -1,5 +1,5 @@
 //! Products of a seat's challenges, made once for many indices.
-ghost use Rattle.std.specs.Prelude.{◌≡◌, ℕ, List, ◌+◌, ◌*◌, ◌/◌, ◌%◌, ◌^◌, ◌<◌, ◌≤◌, All, length};
+ghost use Rattle.std.specs.Prelude.{◌≡◌, ℕ, List, ◌+◌, ◌*◌, ◌/◌, ◌%◌, ◌^◌, ◌<◌, ◌≤◌, length};
 ghost use Rattle.std.specs.Prelude.{take, drop};
 ghost use Rattle.sip_field.specs.Products.{zero_factor, bits_product, HasProducts, AreTables};
 
@@ -16,8 +16,9 @@ pub enum Factors {
 }
 
 /// The products for at most seven challenges, those of the levels above `from`. Entry e is that of
-/// the index e, the lowest bit first, for each e below 2^n, where there are n challenges. They are
-/// made where they are to lie: a table is too large to be moved about.
+/// the index e, the lowest bit first, for each e below 2^n, where there are n challenges, and eight
+/// times as large. They are made where they are to lie, whatever lies there: a table is too large
+/// to be moved about, or to be filled twice.
 ///
 /// 2^n - 1 `times`: each challenge doubles what there is, by one for each pair.
 pub(crate) fn products<F: Field, const CAP: usize>(
@@ -27,25 +28,24 @@ pub(crate) fn products<F: Field, const CAP: usize>(
     factors: Factors,
 )
     requires { from ≤ length seat.now }
-    ensures products { HasProducts F.MODULUS (zero_factor F.MODULUS factors)
+    ensures { HasProducts F.MODULUS (zero_factor F.MODULUS factors)
         (take 7 (drop from seat.now)) table.new }
-    ensures below { All (λ x. x < F.MODULUS) table.new }
 {
-    *table = [1; 128];
+    table[0] = 8;
     let mut filled = 1;
     let left = seat.depth() - from;
     let levels = if left < 7 { left } else { 7 };
     for level in 0..levels {
         let challenge = seat.at(from + level + 1);
         for entry in 0..filled {
-            let whole = F::of_number(table[entry]);
-            let one = whole.times(challenge);
+            let whole = table[entry];
+            let one = challenge.times_eighth(whole);
             let zero = match factors {
                 Factors::Tree => whole,
-                Factors::Extension => whole.minus(one),
+                Factors::Extension => 8 * F::of_number(whole / 8).minus(one).number(),
             };
-            table[filled + entry] = one.number();
-            table[entry] = zero.number();
+            table[filled + entry] = 8 * one.number();
+            table[entry] = zero;
         }
         filled *= 2;
     }
@@ -64,7 +64,6 @@ pub fn fill_tables<F: Field, const CAP: usize>(
     requires { length seat.now ≤ 49 }
     ensures count { result ≤ 7 }
     ensures all { length seat.now ≤ 7 * result }
-    ensures below { All (All (λ x. x < F.MODULUS)) (take result tables.new) }
     ensures tables { AreTables F.MODULUS (zero_factor F.MODULUS factors) seat.now
         (take result tables.new) }
 {
@@ -80,7 +79,6 @@ pub fn fill_tables<F: Field, const CAP: usize>(
 ///
 /// One `times` for each table.
 pub fn by_tables<F: Field>(start: F, tables: &[[u64; 128]], index: u64) -> F
-    requires { All (All (λ x. x < F.MODULUS)) tables.now }
     ensures { (zero : ℕ → ℕ) (challenges : List ℕ) → AreTables F.MODULUS zero challenges tables.now
         → length challenges ≤ 7 * length tables.now → index < 2 ^ length challenges
         → F.number result
@@ -89,7 +87,7 @@ pub fn by_tables<F: Field>(start: F, tables: &[[u64; 128]], index: u64) -> F
     let mut product = start;
     let mut path = index;
     for table in tables {
-        product = product.times(F::of_number(table[(path % 128) as usize]));
+        product = product.times_eighth(table[(path % 128) as usize]);
         path /= 128;
     }
     product
@@ -108,7 +106,6 @@ pub fn loosely_by_tables<F: Field, const N: usize>(
     requires exact { length tables.now ≡ N }
     requires few { N ≤ 7 }
     requires most { start ≤ 2 ^ 62 + 1 }
-    requires below { All (All (λ x. x < F.MODULUS)) tables.now }
     ensures { (zero : ℕ → ℕ) (challenges : List ℕ) → AreTables F.MODULUS zero challenges tables.now
         → length challenges ≤ 7 * length tables.now → index < 2 ^ length challenges
         → result % F.MODULUS
@@ -119,9 +116,9 @@ pub fn loosely_by_tables<F: Field, const N: usize>(
     for group in 0..N {
         // 64 bits have room for six products from such a number on.
         if group == 6 {
-            product = F::of(product).number();
+            product = F::shortened(product);
         }
-        product = F::loose_times(product, tables[group][(path % 128) as usize]);
+        product = F::loose_eighth(product, tables[group][(path % 128) as usize]);
         path /= 128;
     }
     product

@@ -50,11 +50,13 @@
 //! # Cost
 //!
 //! The unit is one `times`. For `M61` that is a product of 64 by 64 bits, two shifts, an addition
-//! and at most one subtraction; `loose_times` leaves out the subtraction.
+//! and at most one subtraction; `loose_times` leaves out the subtraction. `times_eighth` and
+//! `loose_eighth` are the same with a factor that is eight times as large, as tables keep it, which
+//! spares a shift.
 //!
 //! | Call | `times` | Beside it, for `M61` |
 //! |---|---|---|
-//! | `of`, `of_number`, `of_signed`, `loose_signed`, `number` | 0 | a few additions |
+//! | `of`, `of_number`, `of_signed`, `loose_signed`, `shortened`, `number` | 0 | a few additions |
 //! | `plus`, `minus` | 0 | a few additions |
 //! | `horner` of n coefficients | n | n `plus` |
 //! | `draw_one` | 0 | one word, and another for each that gives no challenge, eight at most |

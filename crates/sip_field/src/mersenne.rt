@@ -88,16 +88,28 @@ impl Field for M61 {
     }
 
     fn times(self, other: M61) -> M61 {
-        reduced_once(M61::loose_times(self.value, other.value))
+        self.times_eighth(8 * other.value)
+    }
+
+    fn times_eighth(self, eightfold: u64) -> M61 {
+        reduced_once(M61::loose_eighth(self.value, eightfold))
+    }
+
+    fn loose_times(x: u64, y: u64) -> u64 {
+        M61::loose_eighth(x, 8 * y)
     }
 
     // Eight times the product has the bits above its lowest 61 in a word of their own: no bits of
     // two words are to be put together.
-    fn loose_times(x: u64, y: u64) -> u64 {
-        let product = u128::from(x) * u128::from(8 * y);
+    fn loose_eighth(x: u64, eightfold: u64) -> u64 {
+        let product = u128::from(x) * u128::from(eightfold);
         let high = (product >> 64) as u64;
         let low = (product % (1 << 64)) as u64;
         high + low / 8
+    }
+
+    fn shortened(x: u64) -> u64 {
+        (x & P) + (x >> 61)
     }
 
     ghost odd = { refl };

@@ -77,8 +77,20 @@ impl Field for F31 {
         F31::of(self.value * other.value)
     }
 
+    fn times_eighth(self, eightfold: u64) -> F31 {
+        F31::of(self.value * (eightfold / 8 % P))
+    }
+
     fn loose_times(x: u64, y: u64) -> u64 {
         (x % P) * y
+    }
+
+    fn loose_eighth(x: u64, eightfold: u64) -> u64 {
+        (x % P) * (eightfold / 8 % P)
+    }
+
+    fn shortened(x: u64) -> u64 {
+        x % P
     }
 
     ghost odd = { refl };

@@ -1,6 +1,6 @@
 //! Nodes of a level as weighted sums over the entries below them.
 
-ghost use Rattle.std.specs.Prelude.{◌≡◌, ℕ, List, [], ◌+◌, ◌-◌, ◌*◌, ◌%◌, ◌^◌, ◌<◌, ◌≤◌, All};
+ghost use Rattle.std.specs.Prelude.{◌≡◌, ℕ, List, [], ◌+◌, ◌-◌, ◌*◌, ◌%◌, ◌^◌, ◌<◌, ◌≤◌};
 ghost use Rattle.std.specs.Prelude.{length, map, take, drop, filter, IfOk};
 ghost use Rattle.sip_field.specs.Products.{zero_factor, bits_product, AreTables};
 ghost use Rattle.sip_field.specs.declared.factors.Factors.TheVariants.{Tree};
@@ -49,7 +49,6 @@ pub(crate) fn tables_of<F: Field>(tables: &mut [[u64; 128]; 7], challenges: &[F]
     requires { length challenges.now ≤ most_depth }
     ensures count { result ≤ 7 }
     ensures all { length challenges.now ≤ 7 * result }
-    ensures below { All (All (λ x. x < F.MODULUS)) (take result tables.new) }
     ensures tables { AreTables F.MODULUS (zero_factor F.MODULUS Tree)
         (map F.number challenges.now) (take result tables.new) }
 {
@@ -69,7 +68,6 @@ pub(crate) fn node<F: Field>(
 ) -> F
     requires deep { height ≤ most_depth }
     requires within { index < 2 ^ (most_depth - height) }
-    requires below { All (All (λ x. x < F.MODULUS)) tables.now }
     ensures { (challenges : List ℕ) → length challenges ≡ height
         → AreTables F.MODULUS (zero_factor F.MODULUS Tree) challenges tables.now
         → length challenges ≤ 7 * length tables.now → Rises 0 entries.now
@@ -115,7 +113,6 @@ fn own_tables(entries: &[Entry], size: u64, count: usize) -> usize
 // nothing.
 fn weighed<F: Field>(entries: &[Entry], tables: &[[u64; 128]], size: u64) -> F
     requires some { 0 < size }
-    requires below { All (All (λ x. x < F.MODULUS)) tables.now }
     ensures { (challenges : List ℕ) → size ≡ 2 ^ length challenges
         → AreTables F.MODULUS (zero_factor F.MODULUS Tree) challenges tables.now
         → length challenges ≤ 7 * length tables.now
@@ -132,8 +129,6 @@ fn weighed<F: Field>(entries: &[Entry], tables: &[[u64; 128]], size: u64) -> F
 fn weighed_by<F: Field>(entries: &[Entry], low: &[[u64; 128]], high: &[[u64; 128]], size: u64) -> F
     requires some { 0 < size }
     requires few { length low.now ≤ 7 }
-    requires below { All (All (λ x. x < F.MODULUS)) low.now }
-    requires above { All (All (λ x. x < F.MODULUS)) high.now }
     ensures { (challenges : List ℕ) → size ≡ 2 ^ length challenges
         → AreTables F.MODULUS (zero_factor F.MODULUS Tree)
         (take (7 * length low.now) challenges) low.now
@@ -165,8 +160,6 @@ fn summed<F: Field, const N: usize>(
     requires exact { length low.now ≡ N }
     requires few { N ≤ 7 }
     requires some { 0 < size }
-    requires below { All (All (λ x. x < F.MODULUS)) low.now }
-    requires above { All (All (λ x. x < F.MODULUS)) high.now }
     ensures { (challenges : List ℕ) → size ≡ 2 ^ length challenges
         → AreTables F.MODULUS (zero_factor F.MODULUS Tree)
         (take (7 * length low.now) challenges) low.now
@@ -203,7 +196,6 @@ struct Near<F: Field> {
 
 // The same sum, with another path.
 fn moved_to<F: Field>(sums: Near<F>, high: &[[u64; 128]], path: u64) -> Near<F>
-    requires below { All (All (λ x. x < F.MODULUS)) high.now }
     ensures path { result.path ≡ path }
     ensures near { result.near ≤ sums.near }
     ensures sum { (challenges : List ℕ)

@@ -12,7 +12,6 @@ use sip_field::{Field, loosely_by_tables, of_wide};
 fn added<F: Field, const N: usize>(value: F, tables: &[[u64; 128]], updates: &[Update]) -> F
     requires exact { length tables.now ≡ N }
     requires few { N ≤ 7 }
-    requires below { All (All (λ x. x < F.MODULUS)) tables.now }
     ensures { (zero : ℕ → ℕ) (challenges : List ℕ) → AreTables F.MODULUS zero challenges tables.now
         → length challenges ≤ 7 * length tables.now
         → All (λ u. u.item < 2 ^ length challenges) updates.now
@@ -36,7 +35,6 @@ fn added<F: Field, const N: usize>(value: F, tables: &[[u64; 128]], updates: &[U
 /// takes two thirds of the time.
 pub fn added_by_tables<F: Field>(value: F, tables: &[[u64; 128]], updates: &[Update]) -> F
     requires few { length tables.now ≤ 7 }
-    requires below { All (All (λ x. x < F.MODULUS)) tables.now }
     ensures { (zero : ℕ → ℕ) (challenges : List ℕ) → AreTables F.MODULUS zero challenges tables.now
         → length challenges ≤ 7 * length tables.now
         → All (λ u. u.item < 2 ^ length challenges) updates.now

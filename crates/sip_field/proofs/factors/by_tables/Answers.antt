@@ -13,7 +13,7 @@ loop-table-preserved g c zero challenges are within =
     let before = c.loop-table.invariant zero challenges are within in (
       subst (λ rs. c.loop-table.path / 128 < 2 ^ length rs) (sym (seven_more k challenges)) (high_part 7 c.loop-table.path (drop (7 * k) challenges) before.0),
       one_table p zero above (g.F.Field.number c.args.start) c.args.index challenges c.args.tables.now k c.loop-table.path (g.F.Field.number c.loop-table.product) _ are
-          c.loop-table-test.true before.0 (c.times-product.ensures ∙ ap (λ x. (g.F.Field.number c.loop-table.product * x) % p) c.of_number.ensures) before.1,
+          c.loop-table-test.true before.0 c.times_eighth-product.ensures before.1,
     )
 
 pub returns : goal.returns

@@ -1,6 +1,5 @@
 use Rattle.std.proofs.Common.{◌≡◌, ℕ, List, [], ◌+◌, ◌*◌, ◌/◌, ◌<◌, length, take, drop, sym, ◌∙◌, subst, arith}
-use Rattle.std.specs.Prelude.{All}
-use Rattle.std.proofs.lemmas.List.{length-set, length-take-le, get_or-take, get_or_default}
+use Rattle.std.proofs.lemmas.List.{length-set, length-take-le, get_or-take}
 use Rattle.sip_field.specs.Products.{zero_factor, HasProducts}
 use Rattle.sip_field.proofs.Doubling.{each_set}
 use Rattle.sip_field.proofs.factors.fill_tables.Goals as goal
@@ -8,7 +7,6 @@ use Rattle.sip_field.proofs.factors.fill_tables.Goals as goal
 pub loop-group-init : goal.loop-group-init
 loop-group-init g c = record {
   long = c.told-tables;
-  below = λ k none. absurd (let no : ⊥ = omega (arith, none) in no);
   products = λ k none. absurd (let no : ⊥ = omega (arith, none) in no);
 }
 
@@ -21,20 +19,9 @@ loop-group-preserved g c =
     omega (arith, c.loop-group.invariant.long, c.loop-group-test.true, c.depth.ensures.exact, c.requires) in
     record {
       long = length-set tables k c.products.new.table ∙ c.loop-group.invariant.long;
-      below = each_set [] (λ _ t. All (λ x. x < p) t) tables k c.products.new.table within c.products.ensures.below c.loop-group.invariant.below;
       products = each_set [] (λ j t. HasProducts p (zero_factor p c.args.factors) (take 7 (drop (7 * j) c.args.seat.now)) t) tables k c.products.new.table within
-          c.products.ensures.products c.loop-group.invariant.products;
+          c.products.ensures c.loop-group.invariant.products;
     }
-
-pub returns-clause-below : goal.returns-clause-below
-returns-clause-below g c k d low =
-    let p : ℕ = g.F.Field.MODULUS in
-    let n : ℕ = (c.depth.result + 6) / 7 in
-    let tables : List (List ℕ) = c.loop-group.tables in
-    let long : length (take n tables) ≡ n =
-    length-take-le n tables (omega (arith, c.loop-group.invariant.long, c.depth.ensures.exact, c.requires)) in
-    subst (All (λ x. x < p)) (sym (get_or_default (take n tables) k d [] low ∙ get_or-take n tables k [] (omega (arith, long, low))))
-    (c.loop-group.invariant.below k (omega (arith, long, low, c.loop-group-test.false)))
 
 pub returns-clause-tables : goal.returns-clause-tables
 returns-clause-tables g c k low =

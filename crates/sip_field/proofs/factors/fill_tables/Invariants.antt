@@ -1,5 +1,4 @@
 use Rattle.std.proofs.Common.{◌≡◌, ℕ, ◌*◌, ◌<◌, [], length, take, drop, get_or}
-use Rattle.std.specs.Prelude.{All}
 use Rattle.sip_field.specs.Products.{zero_factor, HasProducts}
 use Rattle.sip_field.proofs.factors.fill_tables.Given as goal
 
@@ -9,6 +8,5 @@ invariant-loop-group g l =
     let p = g.F.Field.MODULUS in
     record {
       long : length l.tables ≡ 7;
-      below : (k : ℕ) → k < l.group → All (λ x. x < p) (get_or l.tables k []);
       products : (k : ℕ) → k < l.group → HasProducts p (zero_factor p l.fn.factors) (take 7 (drop (7 * k) l.fn.seat)) (get_or l.tables k []);
     }

@@ -1,5 +1,4 @@
-use Rattle.std.proofs.Common.{◌≡◌, ℕ, [], ◌+◌, ◌*◌, ◌/◌, ◌%◌, ◌^◌, ◌<◌, ◌≤◌, drop, get_or, length, refl, sym, ◌∙◌, ap, subst, arith}
-use Rattle.std.proofs.Math.Nat.{mod-mod}
+use Rattle.std.proofs.Common.{◌≡◌, ℕ, [], ◌+◌, ◌*◌, ◌/◌, ◌%◌, ◌^◌, ◌<◌, drop, get_or, length, refl, sym, ◌∙◌, ap, subst, arith}
 use Rattle.std.proofs.lemmas.List.{drop_all}
 use Rattle.std.proofs.lemmas.Nat.{mul-mod_first}
 use Rattle.sip_field.specs.Products.{bits_product}
@@ -22,21 +21,21 @@ loop-group-preserved g c =
     let u : ℕ = c.loop-group.product in
     let start : ℕ = c.if-group-eq6.product in
     let entry : ℕ = get_or (get_or c.args.tables.now k []) (path % 128) 0 in
-    let made : ℕ = c.loose_times-product.result in
+    let made : ℕ = c.loose_eighth-product.result in
     let begun : (start % p ≡ u % p) × (k < 6 → start ≡ u) =
     elim c.if-group-eq6.branch [
       | then-group-eq6 w ↦ (
-        ap (λ x. x % p) (w.product-is ∙ w.number-product.ensures ∙ w.of.ensures) ∙ mod-mod u p,
+        ap (λ x. x % p) w.product-is ∙ w.shortened-product.ensures.residue,
         λ less. absurd (let none : ⊥ = omega (arith, less, w.if-group-eq6.true) in none),
       )
       | else-group-eq6 w ↦ (ap (λ x. x % p) w.product-is, λ less. w.product-is)
     ] in
-    let times : made % p ≡ (u * entry) % p =
-    c.loose_times-product.ensures.residue ∙ sym (mul-mod_first start entry p) ∙ ap (λ x. (x * entry) % p) begun.0 ∙ mul-mod_first u entry p in
+    let times : (y : ℕ) → entry ≡ 8 * y → made % p ≡ (u * y) % p =
+    λ y is. c.loose_eighth-product.ensures.residue y is ∙ sym (mul-mod_first start y p) ∙ ap (λ x. (x * y) % p) begun.0 ∙ mul-mod_first u y p in
     record {
       most = λ few.
           let less : k < 6 = omega (arith, few) in
-          omega (arith, c.loose_times-product.ensures.most, begun.1 less, c.loop-group.invariant.most (omega (arith, less)));
+          omega (arith, c.loose_eighth-product.ensures.most, begun.1 less, c.loop-group.invariant.most (omega (arith, less)));
       is = λ zero challenges are within.
           let before = c.loop-group.invariant.is zero challenges are within in
           let here : k < length c.args.tables.now = omega (arith, c.requires.exact, c.loop-group-test.true) in

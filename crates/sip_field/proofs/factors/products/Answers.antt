@@ -1,7 +1,6 @@
-use Rattle.std.proofs.Common.{◌≡◌, ℕ, suc, List, set, inl, inr, ◌+◌, ◌-◌, ◌*◌, ◌%◌, ◌^◌, ◌<◌, ◌≤◌, length, take, drop, get_or, refl, sym, ◌∙◌, ap, subst, arith}
+use Rattle.std.proofs.Common.{◌≡◌, ℕ, suc, List, set, inl, inr, ◌+◌, ◌-◌, ◌*◌, ◌/◌, ◌%◌, ◌^◌, ◌<◌, ◌≤◌, length, take, drop, get_or, refl, sym, ◌∙◌, ap, arith}
 use Rattle.std.proofs.Math.Nat.{pow-suc, mod-eq_of_lt}
-use Rattle.std.proofs.lemmas.List.{length-set, length-drop, get_or-drop, get_or-replicate}
-use Rattle.std.proofs.lemmas.List.Elements.{All-set, All-replicate}
+use Rattle.std.proofs.lemmas.List.{length-set, length-drop, get_or-drop, get_or-set_same}
 use Rattle.sip_field.specs.Residue.{product_mod, difference_mod}
 use Rattle.sip_field.specs.Products.{zero_factor, bits_product}
 use Rattle.sip_field.proofs.Doubling.{begins, ends, first_seven, one_pair, table_room}
@@ -12,15 +11,13 @@ use Rattle.sip_field.proofs.factors.products.Goals.{then-left-lt7, else-left-lt7
 pub loop-level-init : goal.loop-level-init
 loop-level-init g c = record {
   count = refl;
-  long = refl;
-  below = All-replicate (λ x. x < g.F.Field.MODULUS) 128 1 (omega (arith, g.met.F.Field.at_least));
-  products = λ e low. get_or-replicate 128 e 1 0 (omega (arith, low));
+  long = length-set c.args.table.now 0 8 ∙ c.told-table;
+  products = λ e low. rw (let first : e ≡ 0 = omega (arith, low) in first) (get_or-set_same c.args.table.now 0 8 0 (omega (arith, c.told-table)));
 }
 
 pub loop-entry-init : goal.loop-entry-init
 loop-entry-init g c = record {
   long = c.loop-level.invariant.long;
-  below = c.loop-level.invariant.below;
   between = begins _ _ _ _ _ c.loop-level.invariant.products;
 }
 
@@ -32,6 +29,13 @@ bounds-table-filled g c =
       | else-left-lt7 w ↦ omega (arith, w.levels-is, c.loop-level-test.true)
     ] in
     omega (arith, table_room _ _ c.loop-level.invariant.count seven, c.loop-entry-test.true)
+
+pub of_number-requires : goal.of_number-requires
+of_number-requires g c =
+    let p : ℕ = g.F.Field.MODULUS in
+    let above : 1 < p = omega (arith, g.met.F.Field.at_least) in
+    let here = c.loop-entry.invariant.between.rest c.loop-entry.entry (let self : c.loop-entry.entry ≤ c.loop-entry.entry = omega arith in self) c.loop-entry-test.true in
+    omega (arith, here, product_below p (zero_factor p c.args.factors) above c.loop-entry.entry (take c.loop-level.level (drop c.args.from c.args.seat.now)))
 
 pub loop-entry-preserved : goal.loop-entry-preserved
 loop-entry-preserved g c =
@@ -66,33 +70,35 @@ loop-entry-preserved g c =
     get_or-drop c.args.from seat level 0
     ∙ ap (λ j. get_or seat j 0) (let back : c.args.from + level ≡ c.args.from + level + 1 - 1 = omega arith in back) ∙ sym c.at-challenge.ensures in
     let whole : ℕ = get_or table i 0 in
-    let here : whole ≡ bits_product p zero_of i (take level rs) =
+    let product : ℕ = bits_product p zero_of i (take level rs) in
+    let small : product < p = product_below p zero_of above i (take level rs) in
+    let here : whole ≡ 8 * product =
     c.loop-entry.invariant.between.rest i (let self : i ≤ i = omega arith in self) c.loop-entry-test.true in
-    let one : number c.times-one.result ≡ product_mod p whole r = c.times-one.ensures ∙ ap (λ x. product_mod p x r) c.of_number-whole.ensures in
-    let zero : number c.match-factors.zero ≡ product_mod p whole (zero_of r) =
+    let one : number c.times_eighth-one.result ≡ product_mod p product r =
+    c.times_eighth-one.ensures product here ∙ ap (λ x. x % p) (let turned : r * product ≡ product * r = omega arith in turned) in
+    let zero : c.match-factors.zero ≡ 8 * product_mod p product (zero_of r) =
     elim c.match-factors.branch [
       | in-Tree w ↦
-          ap number w.zero-is ∙ c.of_number-whole.ensures
-          ∙ sym (ap (λ f. product_mod p whole (zero_factor p f r)) w.in-Tree.is
-          ∙ ap (λ x. x % p) (let same : whole * 1 ≡ whole = omega arith in same)
-          ∙ mod-eq_of_lt (subst (λ x. x < p) (sym here) (product_below p zero_of above i (take level rs))))
+          w.zero-is ∙ here
+          ∙ ap (λ x. 8 * x) (sym (ap (λ f. product_mod p product (zero_factor p f r)) w.in-Tree.is
+          ∙ ap (λ x. x % p) (let same : product * 1 ≡ product = omega arith in same)
+          ∙ mod-eq_of_lt small))
       | in-Extension w ↦
-          ap number w.zero-is ∙ w.minus-zero.ensures ∙ ap (λ x. difference_mod p x (number c.times-one.result)) c.of_number-whole.ensures
-          ∙ ap (difference_mod p whole) one ∙ less_product p whole r some (let most : r ≤ p = omega (arith, g.met.F.Field.below c.at-challenge.result) in most)
-          ∙ sym (ap (λ f. product_mod p whole (zero_factor p f r)) w.in-Extension.is)
+          let eighth : whole / 8 ≡ product = omega (arith, here) in
+          w.zero-is
+          ∙ ap (λ x. 8 * x) (w.number.ensures ∙ w.minus.ensures
+          ∙ ap (λ x. difference_mod p x (number c.times_eighth-one.result)) (w.of_number.ensures ∙ eighth)
+          ∙ ap (difference_mod p product) one ∙ less_product p product r some (let most : r ≤ p = omega (arith, g.met.F.Field.below c.at-challenge.result) in most)
+          ∙ sym (ap (λ f. product_mod p product (zero_factor p f r)) w.in-Extension.is))
     ] in
-    let v : ℕ = c.number.result in
-    let u : ℕ = c.number-in-loop-entry.result in
-    let later : List ℕ = set table (filled + i) v in
-    let v_below : v < p = subst (λ x. x < p) (sym c.number.ensures) (g.met.F.Field.below c.times-one.result) in
-    let u_below : u < p = subst (λ x. x < p) (sym c.number-in-loop-entry.ensures) (g.met.F.Field.below c.match-factors.zero) in
+    let v : ℕ = 8 * c.number-in-loop-entry.result in
+    let u : ℕ = c.match-factors.zero in
     record {
-      long = length-set later i u ∙ length-set table (filled + i) v ∙ c.loop-entry.invariant.long;
-      below = All-set (λ x. x < p) later i u u_below (All-set (λ x. x < p) table (filled + i) v v_below c.loop-entry.invariant.below);
+      long = length-set (set table (filled + i) v) i u ∙ length-set table (filled + i) v ∙ c.loop-entry.invariant.long;
       between = one_pair _ _ level filled table i u v c.loop-entry-test.true within
-          (c.number-in-loop-entry.ensures ∙ zero ∙ ap (λ x. product_mod p x (zero_of r)) here ∙ sym (zero_more p zero_of above i level r rs low inside.1 is))
-          (c.number.ensures ∙ one ∙ ap (λ x. product_mod p x r) here ∙ sym (one_more p zero_of above i level r rs low inside.1 is)
-          ∙ ap (λ k. bits_product p zero_of (k + i) (take (level + 1) rs)) (sym c.loop-level.invariant.count))
+          (zero ∙ ap (λ x. 8 * x) (sym (zero_more p zero_of above i level r rs low inside.1 is)))
+          (ap (λ x. 8 * x) (c.number-in-loop-entry.ensures ∙ one ∙ sym (one_more p zero_of above i level r rs low inside.1 is)
+          ∙ ap (λ k. bits_product p zero_of (k + i) (take (level + 1) rs)) (sym c.loop-level.invariant.count)))
           c.loop-entry.invariant.between;
     }
 
@@ -100,12 +106,11 @@ pub loop-level-preserved : goal.loop-level-preserved
 loop-level-preserved g c = record {
   count = omega (arith, c.loop-level.invariant.count, pow-suc 2 c.loop-level.level, (let same : c.loop-level.level + 1 ≡ suc c.loop-level.level = omega arith in ap (λ k. 2 ^ k) same));
   long = c.loop-entry.invariant.long;
-  below = c.loop-entry.invariant.below;
   products = ends _ _ c.loop-level.level c.loop-level.filled c.loop-entry.table c.loop-entry.entry c.loop-entry-test.false c.loop-entry.invariant.between;
 }
 
-pub returns-clause-products : goal.returns-clause-products
-returns-clause-products g c e inside =
+pub returns : goal.returns
+returns g c e inside =
     let p : ℕ = g.F.Field.MODULUS in
     let rs : List ℕ = drop c.args.from c.args.seat.now in
     let level : ℕ = c.loop-level.level in
@@ -118,4 +123,4 @@ returns-clause-products g c e inside =
     ]) in
     let count : c.loop-level.filled ≡ 2 ^ length (take 7 rs) = c.loop-level.invariant.count ∙ ap (λ k. 2 ^ k) all.1 in
     c.loop-level.invariant.products e (omega (arith, count, inside))
-    ∙ ap (bits_product p (zero_factor p c.args.factors) e) all.0
+    ∙ ap (λ seven. 8 * bits_product p (zero_factor p c.args.factors) e seven) all.0

@@ -1,5 +1,4 @@
-use Rattle.std.proofs.Common.{◌≡◌, ◌^◌, ◌<◌, length, drop, take}
-use Rattle.std.specs.Prelude.{All}
+use Rattle.std.proofs.Common.{◌≡◌, ◌*◌, ◌^◌, length, drop, take}
 use Rattle.sip_field.specs.Products.{zero_factor, bits_product}
 use Rattle.sip_field.proofs.Doubling.{Filled, Between}
 use Rattle.sip_field.proofs.factors.products.Given as goal
@@ -11,8 +10,7 @@ invariant-loop-level g l =
     record {
       count : l.filled ≡ 2 ^ l.level;
       long : length l.table ≡ 128;
-      below : All (λ x. x < p) l.table;
-      products : Filled 0 (λ level e x. x ≡ bits_product p (zero_factor p l.fn.factors) e (take level (drop l.fn.from l.fn.seat))) l.level l.filled l.table;
+      products : Filled 0 (λ level e x. x ≡ 8 * bits_product p (zero_factor p l.fn.factors) e (take level (drop l.fn.from l.fn.seat))) l.level l.filled l.table;
     }
 
 -- the first of them are split, into themselves and those behind
@@ -21,6 +19,5 @@ invariant-loop-entry g l =
     let p = g.F.Field.MODULUS in
     record {
       long : length l.table ≡ 128;
-      below : All (λ x. x < p) l.table;
-      between : Between 0 (λ level e x. x ≡ bits_product p (zero_factor p l.fn.factors) e (take level (drop l.fn.from l.fn.seat))) l.level l.filled l.entry l.table;
+      between : Between 0 (λ level e x. x ≡ 8 * bits_product p (zero_factor p l.fn.factors) e (take level (drop l.fn.from l.fn.seat))) l.level l.filled l.entry l.table;
     }

@@ -1,22 +1,10 @@
 -- The lowest tables, and the others.
 use Rattle.std.proofs.Common.{◌≡◌, ℕ, List, ◌*◌, ◌<◌, ◌≤◌, length, drop, take, ap, sym, subst, arith}
-use Rattle.std.specs.Prelude.{All}
 use Rattle.std.proofs.lemmas.List.{length-drop}
-use Rattle.std.proofs.lemmas.List.Elements.{All-take, All-drop}
 use Rattle.sip_field.specs.Products.{zero_factor, AreTables}
 use Rattle.sip_field.specs.declared.factors.Factors.TheVariants.{Tree}
 use Rattle.sip_subvec.proofs.NearEntries.{tables_above, tables_below}
 use Rattle.sip_subvec.proofs.nodes.weighed.Goals as goal
-
-pub weighed_by-requires-clause-below : goal.weighed_by-requires-clause-below
-weighed_by-requires-clause-below g c =
-    let P : List ℕ → Type 0 = λ t. All (λ x. x < g.F.Field.MODULUS) t in
-    subst (All P) (sym c.split_at.ensures.front) (All-take P c.own_tables-own.result c.args.tables.now c.requires.below)
-
-pub weighed_by-requires-clause-above : goal.weighed_by-requires-clause-above
-weighed_by-requires-clause-above g c =
-    let P : List ℕ → Type 0 = λ t. All (λ x. x < g.F.Field.MODULUS) t in
-    subst (All P) (sym c.split_at.ensures.back) (All-drop P c.own_tables-own.result c.args.tables.now c.requires.below)
 
 pub returns : goal.returns
 returns g c challenges size are long =

@@ -1,6 +1,6 @@
 use Rattle.std.proofs.Common.{◌≡◌, ℕ, ◌+◌, ◌-◌, ◌*◌, ◌/◌, ◌%◌, ◌^◌, ◌∙◌, ap, arith}
 use Rattle.sip_field.specs.LawProofs.Congruence.{same_mod}
-use Rattle.sip_field.proofs.mersenne.M61Field.loose_times.Goals as goal
+use Rattle.sip_field.proofs.mersenne.M61Field.loose_eighth.Goals as goal
 
 -- eight times q has the bits of q above its lowest 61 in a word of their own, and these count as
 -- much as the others
@@ -10,8 +10,7 @@ words q e is =
     same_mod (2 ^ 61 - 1) _ _ (record { left = e / 2 ^ 64; right = 0; is = omega (arith, whole) })
 
 pub returns-clause-residue : goal.returns-clause-residue
-returns-clause-residue c =
+returns-clause-residue c y is =
     let x : ℕ = c.args.x in
-    let y : ℕ = c.args.y in
     words (x * y) (c.from.result * c.from-2.result)
-    (ap (λ a. a * c.from-2.result) c.from.ensures ∙ ap (λ b. x * b) c.from-2.ensures ∙ (let turned : x * (8 * y) ≡ 8 * (x * y) = omega arith in turned))
+    (ap (λ a. a * c.from-2.result) c.from.ensures ∙ ap (λ b. x * b) (c.from-2.ensures ∙ is) ∙ (let turned : x * (8 * y) ≡ 8 * (x * y) = omega arith in turned))
