@@ -8,9 +8,10 @@ ghost use Rattle.sip_sketch.specs.Sketches.{code_of};
 use sip_vector::Side;
 
 /// What a seat serves, and so what is kept for it.
-#[derive(Clone, Copy, Debug, PartialEq, Eq)]
+#[derive(Clone, Copy, Debug, PartialEq, Eq, Default)]
 pub enum SeatKind {
     /// Entries of side 0, and the next one above or below an item: the root of side 0.
+    #[default]
     Entries,
     /// Range sums, second moments and higher ones of a side: the extension of the side.
     Sums(Side),
