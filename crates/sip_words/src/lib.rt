@@ -38,9 +38,10 @@ mod verb;
 mod words;
 
 pub use command::{Command, read_words, verb_of};
+pub use decimal::read_decimal;
 pub use helper_name::HelperName;
 pub use plan::{LinkOrder, Opening, PortPlan, ports};
 pub use sparing::{FileId, PlanFiles};
-pub use stream::{Stream, stream_of};
+pub use stream::{Stream, read_stored, stream_of};
 pub use verb::Verb;
 pub use words::{Usage, Words};

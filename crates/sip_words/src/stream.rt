@@ -103,7 +103,7 @@ pub(crate) fn stored_of(words: &Words) -> Option<Form>
 }
 
 /// The form of the stream that a word names as one that a file holds.
-pub(crate) fn read_stored(word: &str) -> Option<Form>
+pub fn read_stored(word: &str) -> Option<Form>
     ensures { MatchOption result
         ((form : AnyForm) → IsStoredWord form word.now → ⊥)
         (λ form. IsStoredWord form word.now) }
