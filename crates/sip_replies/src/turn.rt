@@ -131,11 +131,7 @@ impl Turn {
     }
 
     /// Sends what is due, and changes nothing: [`Turn::sent`] tells that it was sent.
-    pub fn send<Q: Request, L: Link>(
-        &self,
-        request: &Q,
-        link: &mut L,
-    ) -> Result<(), PortStop>
+    pub fn send<Q: Request, L: Link>(&self, request: &Q, link: &mut L) -> Result<(), PortStop>
         requires due { is_due self.now.stage ≡ true }
         requires below { IsBelow self.now.stage }
         requires fits { IsTrue (fits self.now.version (Q.message request.now)) }
