@@ -1,19 +1,15 @@
-//! Running numbers, fed by blocks of updates.
+//! The stream that the running numbers are fed with, block by block.
 ghost use Rattle.std.specs.Prelude.{◌≡◌, ◌^◌, ◌<◌, ◌≤◌, nat_abs, length, All};
 
-use crate::line::{Line, Part, lesser};
-use crate::stream::{Generator, seat};
-use sip_mle::Point;
-use sip_tree::{AugRoot, Root};
+use crate::line::{Line, Part};
+use crate::stream::Generator;
 use sip_vector::{Depth, Side, Update};
-use std::io;
-use std::time::{Clock, Duration, Instant};
+use std::time::Duration;
 
 /// How many updates a block has: those of a full frame.
 pub(crate) const BLOCK: usize = 512;
-/// How many blocks a number gets. 8 times as many updates are below 2^30, the limit of an augmented
-/// root.
-const BLOCKS: u64 = 1000;
+/// How many blocks a number gets that is fed alone.
+pub(crate) const BLOCKS: u64 = 1000;
 
 /// An update that changes nothing.
 const NOTHING: Update = Update {
@@ -52,64 +48,4 @@ pub(crate) fn updates(depth: Depth) -> Line {
         time: Duration::ZERO,
         checksum,
     }
-}
-
-/// Blocks of updates of a root. The least time of a block is taken.
-pub(crate) fn root(clock: &impl Clock, depth: Depth) -> io::Result<Line> {
-    let mut root = Root::new(seat(depth));
-    let mut stream = Generator::of_stream();
-    let mut time = Duration::MAX;
-    for _ in 0..BLOCKS {
-        let block = next_block(&mut stream, depth);
-        let start = Instant::now(clock)?;
-        root.update_all(&block);
-        time = lesser(time, start.elapsed(clock)?);
-    }
-    Ok(Line {
-        part: Part::Root,
-        depth,
-        count: BLOCK as u64,
-        time,
-        checksum: root.value,
-    })
-}
-
-/// Blocks of updates of an extension. The least time of a block is taken.
-pub(crate) fn point(clock: &impl Clock, depth: Depth) -> io::Result<Line> {
-    let mut point = Point::new(seat(depth));
-    let mut stream = Generator::of_stream();
-    let mut time = Duration::MAX;
-    for _ in 0..BLOCKS {
-        let block = next_block(&mut stream, depth);
-        let start = Instant::now(clock)?;
-        point.update_all(&block);
-        time = lesser(time, start.elapsed(clock)?);
-    }
-    Ok(Line {
-        part: Part::Point,
-        depth,
-        count: BLOCK as u64,
-        time,
-        checksum: point.value,
-    })
-}
-
-/// Blocks of updates of an augmented root. The least time of a block is taken.
-pub(crate) fn augroot(clock: &impl Clock, depth: Depth) -> io::Result<Line> {
-    let mut augmented = AugRoot::new(seat(depth));
-    let mut stream = Generator::of_stream();
-    let mut time = Duration::MAX;
-    for _ in 0..BLOCKS {
-        let block = next_block(&mut stream, depth);
-        let start = Instant::now(clock)?;
-        augmented.update_all(&block);
-        time = lesser(time, start.elapsed(clock)?);
-    }
-    Ok(Line {
-        part: Part::AugRoot,
-        depth,
-        count: BLOCK as u64,
-        time,
-        checksum: augmented.hash,
-    })
 }

@@ -16,7 +16,12 @@ mod streams;
 mod vectors;
 
 use line::{Line, Part};
+use many::fed;
+use sip_field::M61;
+use sip_mle::Point;
 use sip_stream::Form;
+use sip_tree::{AugRoot, Root};
+use sip_vector::CAP;
 use std::alloc::Global;
 use std::time::Clock;
 use std::{env, io};
@@ -31,15 +36,15 @@ fn line_of(clock: &impl Clock, alloc: Global, word: &str) -> io::Result<Line> {
     };
     match name {
         "updates" => Ok(blocks::updates(depth)),
-        "root" => blocks::root(clock, depth),
-        "point" => blocks::point(clock, depth),
-        "augroot" => blocks::augroot(clock, depth),
-        "root16" => many::roots(clock, alloc, Part::Roots16, depth, 16),
-        "root64" => many::roots(clock, alloc, Part::Roots64, depth, 64),
-        "point16" => many::points(clock, alloc, Part::Points16, depth, 16),
-        "point64" => many::points(clock, alloc, Part::Points64, depth, 64),
-        "augroot16" => many::augroots(clock, alloc, Part::AugRoots16, depth, 16),
-        "augroot64" => many::augroots(clock, alloc, Part::AugRoots64, depth, 64),
+        "root" => fed::<Root<M61, CAP>>(clock, alloc, Part::Root, depth, 1),
+        "root16" => fed::<Root<M61, CAP>>(clock, alloc, Part::Roots16, depth, 16),
+        "root64" => fed::<Root<M61, CAP>>(clock, alloc, Part::Roots64, depth, 64),
+        "point" => fed::<Point<M61, CAP>>(clock, alloc, Part::Point, depth, 1),
+        "point16" => fed::<Point<M61, CAP>>(clock, alloc, Part::Points16, depth, 16),
+        "point64" => fed::<Point<M61, CAP>>(clock, alloc, Part::Points64, depth, 64),
+        "augroot" => fed::<AugRoot<M61, CAP>>(clock, alloc, Part::AugRoot, depth, 1),
+        "augroot16" => fed::<AugRoot<M61, CAP>>(clock, alloc, Part::AugRoots16, depth, 16),
+        "augroot64" => fed::<AugRoot<M61, CAP>>(clock, alloc, Part::AugRoots64, depth, 64),
         "recordbytes" => streams::bytes(alloc, Part::RecordBytes, depth, Form::made(depth)),
         "records" => streams::read(clock, alloc, Part::Records, depth, Form::made(depth)),
         "textbytes" => streams::bytes(alloc, Part::TextBytes, depth, Form::Text),
