@@ -20,12 +20,15 @@ use Rattle.sip_sketch.specs.Joining.{added, added_seat, added_seats, added_secon
 use Rattle.sip_sketch.specs.Merging.{HasUsed, in_place, lacks_of, seats_in_place, unfit, unlike_first}
 use Rattle.sip_sketch.specs.Sketches.{IsSketch, SeatValues, SketchValues, byte, element, most_seats}
 use Rattle.sip_sketch.specs.Standing.{SeatStands, Stands}
-use Rattle.sip_sketch.specs.inside.Merging.{cleared, cleared_seat, second_at_first}
+use Rattle.sip_verifier.specs.Running.{FitTogether}
+use Rattle.sip_sketch.specs.Seats.{numbers_kept}
+use Rattle.sip_sketch.specs.inside.Adding.{AddUp}
+use Rattle.sip_sketch.specs.inside.Merging.{HasSeats, cleared, cleared_seat, seats_of, second_at_first}
 use Rattle.sip_sketch.proofs.Added.{added-at, added-length}
 use Rattle.sip_sketch.proofs.Alike.{alike-length, is_so, joins_from, none_used, passed, seats_block}
 use Rattle.sip_sketch.proofs.Totals.{neither}
 use Rattle.sip_sketch.proofs.Kept.{IsTold, heavy_field, weight_told}
-use Rattle.sip_sketch.proofs.Summing.{sum_sketch, sum_stands}
+use Rattle.sip_sketch.proofs.Summing.{all_add_up, sum_sketch, sum_stands}
 use Rattle.sip_sketch.proofs.Whole.{HeadFits, SeatFits, fits_from, head_from, ranged_from, ranged_value, sketch_from}
 
 -- ---- a seat
@@ -199,6 +202,16 @@ first_shape (Some was) part none =
     let shape = and_parts (nat_eq was.depth part.depth) (nat_eq was.parts.count part.parts.count && pointwise same_seat was.seats part.seats) (is_so _ one.0) in
     (and_parts (nat_eq was.parts.count part.parts.count) (pointwise same_seat was.seats part.seats) shape.1).1
 
+pub first_seats : (sketch : Option SketchValues) (part : SketchValues) → unlike_first sketch part ≡ None → HasSeats sketch part.seats
+first_seats None part none = tt
+first_seats (Some was) part none = alike-length same_seat was.seats part.seats (first_shape (Some was) part none)
+
+-- the fields of the first part, with these seats
+pub placed_is : (sketch : Option SketchValues) (part : SketchValues) (seats : List SeatValues) → seats ≡ seats_in_place (seats_of sketch) part.seats
+    → record { depth = part.depth; parts = part.parts; tally = part.tally; seats = seats } ≡ in_place sketch part
+placed_is None part seats is = λ i. record { depth = part.depth; parts = part.parts; tally = part.tally; seats = is i }
+placed_is (Some was) part seats is = λ i. record { depth = part.depth; parts = part.parts; tally = part.tally; seats = is i }
+
 -- so it may be a sum so far
 pub placed_sketch : (sketch : Option SketchValues) (part : SketchValues) → IsSketch part → unlike_first sketch part ≡ None
     → IsSketch (cleared (in_place sketch part))
@@ -222,6 +235,24 @@ placed_sketch (Some was) part is none =
 pub joined_sketch : (s part : SketchValues) → IsSketch (cleared s) → IsSketch part → unlike s part ≡ None → IsSketch (cleared (added s part))
 joined_sketch s part is other none =
     subst IsSketch (added_cleared s part) (sum_sketch (cleared s) part is other (joins_from (cleared s) part (unlike_cleared s part ∙ none)))
+
+-- seats that add up where the used ones are cleared add up
+seat_adds : (s more : SeatValues) → AddUp (cleared_seat s) more → AddUp s more
+seat_adds s more h = record {
+  kind = h.kind;
+  block = h.block;
+  total = λ unused. subst (λ (x : SeatValues). FitTogether (numbers_kept x.kind x.first x.second) (numbers_kept more.kind more.first more.second)) (unused_cleared s unused) (h.total unused);
+}
+
+seats_add : (seats others : List SeatValues) → AllZip AddUp (map cleared_seat seats) others → AllZip AddUp seats others
+seats_add [] [] h = tt
+seats_add [] (more ∷ others) h = absurd h
+seats_add (s ∷ seats) [] h = absurd h
+seats_add (s ∷ seats) (more ∷ others) (one, all) = (seat_adds s more one, seats_add seats others all)
+
+pub joined_adds : (s part : SketchValues) → IsSketch (cleared s) → IsSketch part → unlike s part ≡ None → AllZip AddUp s.seats part.seats
+joined_adds s part is other none =
+    seats_add s.seats part.seats (all_add_up (cleared s) part is other (joins_from (cleared s) part (unlike_cleared s part ∙ none)))
 
 -- ---- which seats are used
 

@@ -25,6 +25,7 @@ pub mod Alike
 pub mod Summing
 pub mod Cleared
 pub mod Placing
+pub mod Unread
 pub mod Causes
 pub mod Crashes
 pub mod Founded

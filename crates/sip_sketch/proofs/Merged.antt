@@ -2,6 +2,7 @@
 use Rattle.std.proofs.Common.{◌≡◌, ◌⊎◌, ℕ, zero, suc, ◌+◌, ◌<◌, ◌≤◌, List, [], ◌∷◌, ◌++◌, length, take, flat_map, Some, None, inl, inr, refl, sym, ap, subst, ◌∙◌, arith, append-nil, append_assoc}
 use Rattle.std.specs.Prelude.{⊤}
 use Rattle.std.specs.List.{AllZip}
+use Rattle.std.specs.Option.{unwrap_or}
 use Rattle.std.specs.declared.option.Option.{Option}
 use Rattle.sip_ports.specs.Desk.{Loads, steps}
 use Rattle.sip_ports.specs.Ports.{GoesOn}
@@ -11,7 +12,7 @@ use Rattle.sip_vector.specs.declared.update.Update.{Update}
 use Rattle.sip_sketch.specs.Files.{Finds}
 use Rattle.sip_sketch.specs.Joining.{added, unlike}
 use Rattle.sip_sketch.specs.Loaded.{IsBadFile}
-use Rattle.sip_sketch.specs.Merging.{AddUp, AreParts, HasUsed, IsCut, IsNew, IsNext, IsPart, IsStored, IsSum, IsThere, IsUnlike, Joins, Merges, Next, Sums, in_place, lacks_of, unlike_first}
+use Rattle.sip_sketch.specs.Merging.{AddUp, AreParts, HasUsed, IsBadPart, IsCut, IsNew, IsNext, IsPart, IsStored, IsSum, IsThere, IsUnlike, Joins, Merges, Next, Sums, in_place, lacks_of, unlike_first}
 use Rattle.sip_sketch.specs.Sketches.{IsSketch, SketchValues, spelled_file}
 use Rattle.sip_sketch.specs.Standing.{Stands}
 use Rattle.sip_sketch.specs.declared.status.SketchPort.TheVariants as ports
@@ -19,8 +20,9 @@ use Rattle.sip_sketch.specs.declared.status.SketchStatus.{SketchStatus}
 use Rattle.sip_sketch.specs.declared.status.SketchStatus.TheVariants as statuses
 use Rattle.sip_sketch.specs.declared.unlike.Unlike.{Unlike}
 use Rattle.sip_sketch.specs.inside.Keeping.{Closes}
-use Rattle.sip_sketch.specs.inside.Merging.{AreJoined, AreSummed, ComesNext, HaltsWith, IsHalted, IsNoPart, IsStopped, IsUnopened, StopsWith, cleared}
+use Rattle.sip_sketch.specs.inside.Merging.{AreJoined, AreSummed, ComesNext, HaltsWith, IsNoPart, IsUnopened, StopsWith, cleared}
 use Rattle.sip_sketch.proofs.Cleared.{IsOwn, first_stands, first_used, joined_sketch, joined_stands, next_used, placed_sketch, whole_sketch}
+use Rattle.sip_sketch.proofs.Unread.{bad_file, unloaded_is, unread_is}
 
 -- ---- one part more
 
@@ -96,24 +98,9 @@ module _ (files : Option (ℕ → Option (List ℕ))) (count : ℕ) (sketch : Op
   }
 
   pub halted : (status : SketchStatus) → StopsWith files count (in_place sketch first) status → HaltsWith files count sketch status
-  halted (statuses.BadSketch number offset) (parts, sum, joined, is, within, bad) = (first ∷ parts, comes_next number parts sum joined is within, bad)
-  halted (statuses.Unlike number why) (parts, sum, joined, is, within, (next, one, refused)) =
-      (first ∷ parts, comes_next number parts sum joined is within, (next, one, (sum, (free, joined.joins), refused)))
-  halted (statuses.ReadFault (ports.Part number)) (parts, sum, joined, is, within, none) = (first ∷ parts, comes_next number parts sum joined is within, tt)
-  halted statuses.OutOfMemory stops = tt
-  halted statuses.Wrote stops = absurd stops
-  halted statuses.Exists stops = absurd stops
-  halted statuses.BadSeed stops = absurd stops
-  halted statuses.SeedSpent stops = absurd stops
-  halted statuses.Busy stops = absurd stops
-  halted (statuses.BadStream at why) stops = absurd stops
-  halted (statuses.BadStart records is_sum) stops = absurd stops
-  halted (statuses.Behind at) stops = absurd stops
-  halted (statuses.ReadFault ports.First) stops = absurd stops
-  halted (statuses.ReadFault ports.Second) stops = absurd stops
-  halted (statuses.ReadFault ports.Sketch) stops = absurd stops
-  halted (statuses.ReadFault ports.Report) stops = absurd stops
-  halted (statuses.WriteFault port) stops = absurd stops
+  halted status (number, parts, sum, joined, is, within, inl none) = (number, first ∷ parts, comes_next number parts sum joined is within, inl none)
+  halted status (number, parts, sum, joined, is, within, inr (next, why, one, refused, same)) =
+      (number, first ∷ parts, comes_next number parts sum joined is within, inr (next, why, one, (sum, (free, joined.joins), refused), same))
 
   -- or all were added up
   pub summed : (parts : List SketchValues) (sum : SketchValues) → length parts + 1 ≡ count → AreJoined files 2 (in_place sketch first) parts sum → AreSummed files count sketch sum
@@ -125,81 +112,25 @@ module _ (files : Option (ℕ → Option (List ℕ))) (count : ℕ) (sketch : Op
   }
 
 -- before the first part
-first_next : (files : Option (ℕ → Option (List ℕ))) (count : ℕ) (sketch : Option SketchValues) → 1 ≤ count → ComesNext files count 1 sketch []
+pub first_next : (files : Option (ℕ → Option (List ℕ))) (count : ℕ) (sketch : Option SketchValues) → 1 ≤ count → ComesNext files count 1 sketch []
 first_next files count sketch some = record { place = refl; within = some; loaded = tt; add_up = tt }
-
-pub first_halted : (files : Option (ℕ → Option (List ℕ))) (count : ℕ) (sketch : Option SketchValues) (status : SketchStatus) → 1 ≤ count
-    → IsNoPart files 1 status → HaltsWith files count sketch status
-first_halted files count sketch (statuses.BadSketch number offset) some (is, file, finds, bad) =
-    subst (λ n. HaltsWith files count sketch (statuses.BadSketch n offset)) (sym is) ([], first_next files count sketch some, (file, finds, bad))
-first_halted files count sketch (statuses.ReadFault (ports.Part number)) some is =
-    subst (λ n. HaltsWith files count sketch (statuses.ReadFault (ports.Part n))) (sym is) ([], first_next files count sketch some, tt)
-first_halted files count sketch statuses.OutOfMemory some is = tt
-first_halted files count sketch statuses.Wrote some is = absurd is
-first_halted files count sketch statuses.Exists some is = absurd is
-first_halted files count sketch statuses.BadSeed some is = absurd is
-first_halted files count sketch statuses.SeedSpent some is = absurd is
-first_halted files count sketch statuses.Busy some is = absurd is
-first_halted files count sketch (statuses.BadStream at why) some is = absurd is
-first_halted files count sketch (statuses.BadStart records is_sum) some is = absurd is
-first_halted files count sketch (statuses.Behind at) some is = absurd is
-first_halted files count sketch (statuses.Unlike number why) some is = absurd is
-first_halted files count sketch (statuses.ReadFault ports.First) some is = absurd is
-first_halted files count sketch (statuses.ReadFault ports.Second) some is = absurd is
-first_halted files count sketch (statuses.ReadFault ports.Sketch) some is = absurd is
-first_halted files count sketch (statuses.ReadFault ports.Report) some is = absurd is
-first_halted files count sketch (statuses.WriteFault port) some is = absurd is
-
-pub first_refused : (files : Option (ℕ → Option (List ℕ))) (count : ℕ) (sketch : Option SketchValues) (part : SketchValues) (why : Unlike) → 1 ≤ count
-    → IsPart files 1 part → unlike_first sketch part ≡ Some why → HaltsWith files count sketch (statuses.Unlike 1 why)
-first_refused files count sketch part why some is refused = ([], first_next files count sketch some, (part, is, refused))
-
--- the same at a part behind the first
-pub next_stopped : (files : Option (ℕ → Option (List ℕ))) (count : ℕ) (before : SketchValues) (number : ℕ) (parts : List SketchValues) (sum : SketchValues) (status : SketchStatus)
-    → AreJoined files 2 before parts sum → number ≡ length parts + 2 → number ≤ count → IsNoPart files number status → StopsWith files count before status
-next_stopped files count before number parts sum (statuses.BadSketch n offset) joined at within (is, file, finds, bad) =
-    subst (λ m. StopsWith files count before (statuses.BadSketch m offset)) (sym is) (parts, sum, joined, at, within, (file, finds, bad))
-next_stopped files count before number parts sum (statuses.ReadFault (ports.Part n)) joined at within is =
-    subst (λ m. StopsWith files count before (statuses.ReadFault (ports.Part m))) (sym is) (parts, sum, joined, at, within, tt)
-next_stopped files count before number parts sum statuses.OutOfMemory joined at within is = tt
-next_stopped files count before number parts sum statuses.Wrote joined at within is = absurd is
-next_stopped files count before number parts sum statuses.Exists joined at within is = absurd is
-next_stopped files count before number parts sum statuses.BadSeed joined at within is = absurd is
-next_stopped files count before number parts sum statuses.SeedSpent joined at within is = absurd is
-next_stopped files count before number parts sum statuses.Busy joined at within is = absurd is
-next_stopped files count before number parts sum (statuses.BadStream place why) joined at within is = absurd is
-next_stopped files count before number parts sum (statuses.BadStart records is_sum) joined at within is = absurd is
-next_stopped files count before number parts sum (statuses.Behind place) joined at within is = absurd is
-next_stopped files count before number parts sum (statuses.Unlike n why) joined at within is = absurd is
-next_stopped files count before number parts sum (statuses.ReadFault ports.First) joined at within is = absurd is
-next_stopped files count before number parts sum (statuses.ReadFault ports.Second) joined at within is = absurd is
-next_stopped files count before number parts sum (statuses.ReadFault ports.Sketch) joined at within is = absurd is
-next_stopped files count before number parts sum (statuses.ReadFault ports.Report) joined at within is = absurd is
-next_stopped files count before number parts sum (statuses.WriteFault port) joined at within is = absurd is
 
 -- ---- the whole call
 
 module _ (files : Option (ℕ → Option (List ℕ))) (count : ℕ) (start : Option (List ℕ)) (old new : Option (List TalkEvent)) where
   -- the sketch was not loaded
   pub unopened : (status : SketchStatus) → IsUnopened start old status → GoesOn old new [] → Merges files count start old new status
-  unopened (statuses.BadSketch number offset) (is, bytes, loads, bad) talk =
-      subst (λ n. Merges files count start old new (statuses.BadSketch n offset)) (sym is) ((bytes, loads, bad), talk)
-  unopened statuses.Busy is talk = talk
-  unopened (statuses.ReadFault ports.Sketch) is talk = talk
-  unopened statuses.OutOfMemory is talk = inl talk
-  unopened statuses.Wrote is talk = absurd is
-  unopened statuses.Exists is talk = absurd is
-  unopened statuses.BadSeed is talk = absurd is
-  unopened statuses.SeedSpent is talk = absurd is
-  unopened (statuses.BadStream at why) is talk = absurd is
-  unopened (statuses.BadStart records is_sum) is talk = absurd is
-  unopened (statuses.Behind at) is talk = absurd is
-  unopened (statuses.Unlike number why) is talk = absurd is
-  unopened (statuses.ReadFault ports.First) is talk = absurd is
-  unopened (statuses.ReadFault ports.Second) is talk = absurd is
-  unopened (statuses.ReadFault (ports.Part number)) is talk = absurd is
-  unopened (statuses.ReadFault ports.Report) is talk = absurd is
-  unopened (statuses.WriteFault port) is talk = absurd is
+  unopened status (inl is) talk = elim (unloaded_is status is) [
+    | inl busy ↦ subst (Merges files count start old new) (sym busy) talk
+    | inr other ↦ elim other [
+      | inl failed ↦ subst (Merges files count start old new) (sym failed) talk
+      | inr refused ↦ subst (Merges files count start old new) (sym refused) (inl talk)
+    ]
+  ]
+  unopened status (inr (bytes, loads, is)) talk = elim (unread_is 0 bytes status is) [
+    | inl (offset, bad, here) ↦ subst (Merges files count start old new) (sym here) ((bytes, loads, bad), talk)
+    | inr refused ↦ subst (Merges files count start old new) (sym refused) (inl talk)
+  ]
 
   module _ (sketch : Option SketchValues) (there : IsThere start old sketch) where
     -- it may be missing
@@ -210,26 +141,27 @@ module _ (files : Option (ℕ → Option (List ℕ))) (count : ℕ) (start : Opt
     next : (number : ℕ) (parts : List SketchValues) → ComesNext files count number sketch parts → IsNext files count start old number sketch parts
     next number parts comes = record { there = there; place = comes.place; within = comes.within; loaded = comes.loaded; add_up = comes.add_up }
 
+    -- a part was found to be no sketch
+    bad_part : (number : ℕ) (parts : List SketchValues) → ComesNext files count number sketch parts → (file : Option (List ℕ)) (offset : ℕ) → Finds files number file
+        → IsBadFile file offset → IsBadPart files count start old number offset
+    bad_part zero parts comes file offset finds bad = absurd (omega (arith, comes.place))
+    bad_part (suc k) parts comes file offset finds bad = (sketch, parts, next (suc k) parts comes, (file, finds, bad))
+
+    no_part : (number : ℕ) (parts : List SketchValues) → ComesNext files count number sketch parts → (status : SketchStatus) → IsNoPart files number status → GoesOn old new []
+        → Merges files count start old new status
+    no_part number parts comes status (inl failed) talk =
+        subst (Merges files count start old new) (sym failed) ((sketch, parts, next number parts comes, tt), talk)
+    no_part number parts comes status (inr (inl refused)) talk = subst (Merges files count start old new) (sym refused) (inl talk)
+    no_part number parts comes status (inr (inr (file, finds, is))) talk = elim (unread_is number (unwrap_or file []) status is) [
+      | inl (offset, bad, here) ↦ subst (Merges files count start old new) (sym here) (bad_part number parts comes file offset finds (bad_file file offset bad), talk)
+      | inr refused ↦ subst (Merges files count start old new) (sym refused) (inl talk)
+    ]
+
     -- adding up halted
     pub unsummed : (status : SketchStatus) → HaltsWith files count sketch status → GoesOn old new [] → Merges files count start old new status
-    unsummed (statuses.BadSketch zero offset) (parts, comes, bad) talk = absurd (omega (arith, comes.place))
-    unsummed (statuses.BadSketch (suc k) offset) (parts, comes, bad) talk = ((sketch, parts, next (suc k) parts comes, bad), talk)
-    unsummed (statuses.Unlike number why) (parts, comes, refused) talk = (inl (sketch, parts, next number parts comes, refused), talk)
-    unsummed (statuses.ReadFault (ports.Part number)) (parts, comes, none) talk = ((sketch, parts, next number parts comes, tt), talk)
-    unsummed statuses.OutOfMemory halts talk = inl talk
-    unsummed statuses.Wrote halts talk = absurd halts
-    unsummed statuses.Exists halts talk = absurd halts
-    unsummed statuses.BadSeed halts talk = absurd halts
-    unsummed statuses.SeedSpent halts talk = absurd halts
-    unsummed statuses.Busy halts talk = absurd halts
-    unsummed (statuses.BadStream at why) halts talk = absurd halts
-    unsummed (statuses.BadStart records is_sum) halts talk = absurd halts
-    unsummed (statuses.Behind at) halts talk = absurd halts
-    unsummed (statuses.ReadFault ports.First) halts talk = absurd halts
-    unsummed (statuses.ReadFault ports.Second) halts talk = absurd halts
-    unsummed (statuses.ReadFault ports.Sketch) halts talk = absurd halts
-    unsummed (statuses.ReadFault ports.Report) halts talk = absurd halts
-    unsummed (statuses.WriteFault port) halts talk = absurd halts
+    unsummed status (number, parts, comes, inl none) talk = no_part number parts comes status none talk
+    unsummed status (number, parts, comes, inr (part, why, is, refused, same)) talk =
+        subst (Merges files count start old new) (sym same) (inl (sketch, parts, next number parts comes, (part, is, refused)), talk)
 
     sum_is : (sum : SketchValues) (s : AreSummed files count sketch sum) → IsSum files count start old sketch s.all sum
     sum_is sum s = record { there = there; many = s.many; loaded = s.loaded; sums = s.sums }

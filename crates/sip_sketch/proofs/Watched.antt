@@ -23,45 +23,27 @@ use Rattle.sip_sketch.specs.inside.Keeping.{Closes}
 use Rattle.sip_sketch.specs.inside.Loading.{IsUnloaded, IsUnread}
 use Rattle.sip_sketch.proofs.Followed.{IsAt, begins, cut_at_end, stores, was_stored}
 use Rattle.sip_sketch.proofs.Rounds.{no_multiples}
+use Rattle.sip_sketch.proofs.Unread.{unloaded_is, unread_is}
 
 module _ (form : Form) (at every : Option ℕ) (start left : Option (List ℕ)) (old : Option (List TalkEvent)) where
   -- the file was not loaded
   pub unloaded : (left' : Option (List ℕ)) (new : Option (List TalkEvent)) (status : SketchStatus) → IsUnloaded status → left' ≡ left → GoesOn old new []
       → Watches form at every start left old left' new status
-  unloaded left' new statuses.Busy is same talk = (same, talk)
-  unloaded left' new (statuses.ReadFault ports.Sketch) is same talk = (same, talk)
-  unloaded left' new (statuses.ReadFault ports.First) is same talk = absurd is
-  unloaded left' new (statuses.ReadFault ports.Second) is same talk = absurd is
-  unloaded left' new (statuses.ReadFault (ports.Part number)) is same talk = absurd is
-  unloaded left' new (statuses.ReadFault ports.Report) is same talk = absurd is
-  unloaded left' new statuses.OutOfMemory is same talk = inl (same, talk)
-  unloaded left' new statuses.Wrote is same talk = absurd is
-  unloaded left' new statuses.Exists is same talk = absurd is
-  unloaded left' new (statuses.BadSketch part offset) is same talk = absurd is
-  unloaded left' new statuses.BadSeed is same talk = absurd is
-  unloaded left' new statuses.SeedSpent is same talk = absurd is
-  unloaded left' new (statuses.BadStream number why) is same talk = absurd is
-  unloaded left' new (statuses.BadStart records is_sum) is same talk = absurd is
-  unloaded left' new (statuses.Behind number) is same talk = absurd is
-  unloaded left' new (statuses.Unlike part why) is same talk = absurd is
-  unloaded left' new (statuses.WriteFault port) is same talk = absurd is
+  unloaded left' new status is same talk = elim (unloaded_is status is) [
+    | inl busy ↦ subst (Watches form at every start left old left' new) (sym busy) (same, talk)
+    | inr other ↦ elim other [
+      | inl failed ↦ subst (Watches form at every start left old left' new) (sym failed) (same, talk)
+      | inr refused ↦ subst (Watches form at every start left old left' new) (sym refused) (inl (same, talk))
+    ]
+  ]
 
   -- its bytes were no sketch, or there was no memory for one
   pub unread : (left' : Option (List ℕ)) (new : Option (List TalkEvent)) (bytes : List ℕ) (status : SketchStatus) → IsUnread 0 bytes status → Loads start old (Some bytes) → left' ≡ left → GoesOn old new []
       → Watches form at every start left old left' new status
-  unread left' new bytes (statuses.BadSketch part offset) (zero, bad) loads same talk = (zero, Some bytes, loads, bad, (same, talk))
-  unread left' new bytes statuses.OutOfMemory is loads same talk = inl (same, talk)
-  unread left' new bytes statuses.Busy is loads same talk = absurd is
-  unread left' new bytes (statuses.ReadFault port) is loads same talk = absurd is
-  unread left' new bytes statuses.Wrote is loads same talk = absurd is
-  unread left' new bytes statuses.Exists is loads same talk = absurd is
-  unread left' new bytes statuses.BadSeed is loads same talk = absurd is
-  unread left' new bytes statuses.SeedSpent is loads same talk = absurd is
-  unread left' new bytes (statuses.BadStream number why) is loads same talk = absurd is
-  unread left' new bytes (statuses.BadStart records is_sum) is loads same talk = absurd is
-  unread left' new bytes (statuses.Behind number) is loads same talk = absurd is
-  unread left' new bytes (statuses.Unlike part why) is loads same talk = absurd is
-  unread left' new bytes (statuses.WriteFault port) is loads same talk = absurd is
+  unread left' new bytes status is loads same talk = elim (unread_is 0 bytes status is) [
+    | inl (offset, bad, here) ↦ subst (Watches form at every start left old left' new) (sym here) (refl, Some bytes, loads, bad, (same, talk))
+    | inr refused ↦ subst (Watches form at every start left old left' new) (sym refused) (inl (same, talk))
+  ]
 
 -- ---- behind the load
 

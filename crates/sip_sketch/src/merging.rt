@@ -32,13 +32,9 @@ fn open<D: Desk>(alloc: Global, desk: &mut D) -> Result<Option<Sketch>, SketchSt
     ensures start { D.start desk.new ≡ D.start desk.old }
     ensures desk { Lasts D.faults D.wants D.is_sure desk.old desk.new }
 {
-    match load_file(alloc, desk) {
-        Ok(None) => Ok(None),
-        Ok(Some(file)) => match read_part(alloc, 0, &file) {
-            Ok(sketch) => Ok(Some(sketch)),
-            Err(status) => Err(status),
-        },
-        Err(status) => Err(status),
+    match load_file(alloc, desk)? {
+        None => Ok(None),
+        Some(file) => Ok(Some(read_part(alloc, 0, &file)?)),
     }
 }
 
@@ -82,10 +78,7 @@ fn add_parts<P: SketchFiles>(
     ensures parts { Lasts P.faults P.wants P.is_sure parts.old parts.new }
 {
     for number in 2..count + 1 {
-        let part = match load_part(alloc, parts, number) {
-            Ok(part) => part,
-            Err(status) => return Err(status),
-        };
+        let part = load_part(alloc, parts, number)?;
         if let Err(why) = sum.add(&part) {
             return Err(SketchStatus::Unlike { part: number, why });
         }
@@ -109,18 +102,13 @@ fn add_up<P: SketchFiles>(
     ensures content { P.content parts.new ≡ P.content parts.old }
     ensures parts { Lasts P.faults P.wants P.is_sure parts.old parts.new }
 {
-    let first = match load_part(alloc, parts, 1) {
-        Ok(part) => part,
-        Err(status) => return Err(status),
-    };
+    let first = load_part(alloc, parts, 1)?;
     let mut sum = match Sum::begin(sketch, first) {
         Ok(sum) => sum,
         Err(why) => return Err(SketchStatus::Unlike { part: 1, why }),
     };
-    match add_parts(alloc, &mut sum, parts, count) {
-        Ok(()) => Ok(sum),
-        Err(status) => Err(status),
-    }
+    add_parts(alloc, &mut sum, parts, count)?;
+    Ok(sum)
 }
 
 /// Adds up the parts of a stream, which several collectors kept, and puts the sum in the place of

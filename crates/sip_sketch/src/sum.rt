@@ -6,6 +6,7 @@ ghost use Rattle.sip_sketch.specs.Joining.{added, unlike};
 ghost use Rattle.sip_sketch.specs.Merging.{in_place, lacks, lacks_of, seats_in_place, unfit};
 ghost use Rattle.sip_sketch.specs.Merging.{unlike_first};
 ghost use Rattle.sip_sketch.specs.Sketches.{IsSketch, SketchValues};
+ghost use Rattle.sip_sketch.specs.inside.Merging.{HasSeats, seats_of};
 
 use crate::absorbing::{add_seats, any_used, is_whole, unlike};
 use crate::{Parts, Sketch, SketchSeat, Unlike};
@@ -94,6 +95,18 @@ fn put_used(seats: &mut [SketchSeat], others: &mut [SketchSeat])
     }
 }
 
+// The seats of a part, with each used one of a sketch that there may be in its place.
+fn seats_in_place(sketch: Option<Sketch>, mut seats: Vec<SketchSeat>) -> Vec<SketchSeat>
+    requires { HasSeats sketch seats.items }
+    ensures { result.items ≡ seats_in_place (seats_of sketch) seats.items }
+{
+    if let Some(sketch) = sketch {
+        let mut others = sketch.seats;
+        put_used(&mut seats, &mut others);
+    }
+    seats
+}
+
 impl Sum {
     /// The first part, in the place of a sketch.
     ///
@@ -112,12 +125,9 @@ impl Sum {
             depth,
             parts,
             tally,
-            mut seats,
+            seats,
         } = part;
-        if let Some(sketch) = sketch {
-            let mut others = sketch.seats;
-            put_used(&mut seats, &mut others);
-        }
+        let seats = seats_in_place(sketch, seats);
         Ok(Sum {
             depth,
             parts,

@@ -76,6 +76,8 @@ const MANY: [u8; 118] = [
 #[derive(Clone, Copy, PartialEq, Eq)]
 enum File {
     Missing,
+    // no byte
+    Nothing,
     // its first three bytes alone
     Cut,
     One,
@@ -96,6 +98,7 @@ impl File {
     fn bytes(self, alloc: Global) -> Result<Option<Vec<u8>>, Fail> {
         let bytes = match self {
             File::Missing => return Ok(None),
+            File::Nothing => b"".to_vec(alloc),
             File::Cut => b"SIP".to_vec(alloc),
             File::One => ONE.to_vec(alloc),
             File::Two => TWO.to_vec(alloc),
@@ -163,7 +166,8 @@ const REFUSED: [(File, &[File], u32, Unlike); 14] = [
 ];
 
 // The file of the sketch, those of the parts in order, and which part is no sketch from which byte.
-const BAD: [(File, &[File], u32, u64); 5] = [
+const BAD: [(File, &[File], u32, u64); 6] = [
+    (File::Nothing, BOTH, 0, 0),
     (File::Cut, BOTH, 0, 3),
     (File::Missing, &[File::Missing], 1, 0),
     (File::Missing, &[File::One, File::Missing], 2, 0),

@@ -1,5 +1,5 @@
 -- What adding up the parts did, before the sum was stored.
-use Rattle.std.specs.Prelude.{◌≡◌, ℕ, ◌+◌, ◌≤◌, ⊤, List, length, map, Some}
+use Rattle.std.specs.Prelude.{◌≡◌, ◌⊎◌, ℕ, ◌+◌, ◌≤◌, ⊤, List, [], length, map, None, Some}
 use Rattle.std.specs.Prelude.{if◌then◌else◌}
 use Rattle.std.specs.declared.option.Option.{Option}
 use Rattle.sip_ports.specs.Desk.{Loads}
@@ -7,7 +7,6 @@ use Rattle.sip_ports.specs.declared.port.TalkEvent.{TalkEvent}
 use Rattle.sip_vector.specs.Streams.{most_weight}
 use Rattle.sip_sketch.specs.Files.{Finds}
 use Rattle.sip_sketch.specs.Joining.{unlike}
-use Rattle.sip_sketch.specs.Loaded.{IsBadFile}
 use Rattle.sip_sketch.specs.Merging.{AddUp, AreParts, IsPart, IsUnlike, Joins, Sums}
 use Rattle.sip_sketch.specs.Sketches.{SeatValues, SketchValues}
 use Rattle.sip_sketch.specs.declared.kind.SeatKind.{SeatKind}
@@ -16,6 +15,20 @@ use Rattle.sip_sketch.specs.declared.kind.SeatKind.TheVariants.{Heavy}
 use Rattle.sip_sketch.specs.declared.status.SketchPort.TheVariants as ports
 use Rattle.sip_sketch.specs.declared.status.SketchStatus.{SketchStatus}
 use Rattle.sip_sketch.specs.declared.status.SketchStatus.TheVariants as statuses
+use Rattle.sip_sketch.specs.declared.unlike.Unlike.{Unlike}
+use Rattle.sip_sketch.specs.inside.Loading.{IsNoSketch, IsUnloaded, IsUnread}
+
+-- ---- the first part
+
+-- the seats of a sketch that there may be
+abbrev pub seats_of : Option SketchValues → List SeatValues
+seats_of None = []
+seats_of (Some sketch) = sketch.seats
+
+-- it has as many as these, if it is there
+abbrev pub HasSeats : Option SketchValues → List SeatValues → Type 0
+HasSeats None seats = ⊤
+HasSeats (Some sketch) seats = length sketch.seats ≡ length seats
 
 -- ---- a sum that is not whole yet
 
@@ -48,23 +61,17 @@ cleared s = record {
 
 -- ---- loading
 
--- the file of the sketch was not loaded, or is none of a sketch
+-- the file of the sketch was not loaded, or its bytes were not read
 abbrev pub IsUnopened : Option (List ℕ) → Option (List TalkEvent) → SketchStatus → Type 0
-IsUnopened start talk (statuses.BadSketch number offset) = (number ≡ 0)
-    × (bytes : List ℕ) × Loads start talk (Some bytes) × IsBadFile (Some bytes) offset
-IsUnopened start talk statuses.Busy = ⊤
-IsUnopened start talk (statuses.ReadFault ports.Sketch) = ⊤
-IsUnopened start talk statuses.OutOfMemory = ⊤
-IsUnopened start talk _ = ⊥
+IsUnopened start talk status = IsUnloaded status
+    ⊎ ((bytes : List ℕ) × Loads start talk (Some bytes) × IsUnread 0 bytes status)
 
 module _ (files : Option (ℕ → Option (List ℕ))) where
-  -- the part of this number was not loaded
+  -- the part of this number was not loaded, or what was loaded was not read
   abbrev pub IsNoPart : ℕ → SketchStatus → Type 0
-  IsNoPart part (statuses.BadSketch number offset) = (number ≡ part)
-      × (file : Option (List ℕ)) × Finds files part file × IsBadFile file offset
-  IsNoPart part (statuses.ReadFault (ports.Part number)) = number ≡ part
-  IsNoPart part statuses.OutOfMemory = ⊤
-  IsNoPart part _ = ⊥
+  IsNoPart number status = (status ≡ statuses.ReadFault (ports.Part number))
+      ⊎ ((status ≡ statuses.OutOfMemory)
+      ⊎ ((file : Option (List ℕ)) × Finds files number file × IsNoSketch number file status))
 
   -- these parts from this number on were loaded and added up behind those before
   pub record AreJoined (from : ℕ) (before : SketchValues) (parts : List SketchValues)
@@ -72,20 +79,17 @@ module _ (files : Option (ℕ → Option (List ℕ))) where
     pub loaded : AreParts files from parts
     pub joins : Joins before parts sum
 
-  -- Adding the parts behind the first stopped at one of them.
-  abbrev pub IsStopped : ℕ → SketchValues → ℕ → (SketchValues → Type 0) → Type 0
-  IsStopped count before number holds = (parts : List SketchValues) × (sum : SketchValues)
-      × AreJoined 2 before parts sum × (number ≡ length parts + 2) × (number ≤ count) × holds sum
+  -- The part of this number was not added to those before: it was not loaded, or it is unlike them.
+  abbrev pub IsNotAdded : ℕ → SketchStatus → (SketchValues → Unlike → Type 0) → Type 0
+  IsNotAdded number status is_unlike = IsNoPart number status
+      ⊎ ((part : SketchValues) × (why : Unlike) × IsPart files number part × is_unlike part why
+      × (status ≡ statuses.Unlike number why))
 
+  -- adding the parts behind the first stopped at one of them
   abbrev pub StopsWith : ℕ → SketchValues → SketchStatus → Type 0
-  StopsWith count before (statuses.BadSketch number offset) = IsStopped count before number
-      (λ sum. (file : Option (List ℕ)) × Finds files number file × IsBadFile file offset)
-  StopsWith count before (statuses.Unlike number why) = IsStopped count before number
-      (λ sum. (part : SketchValues) × IsPart files number part × (unlike sum part ≡ Some why))
-  StopsWith count before (statuses.ReadFault (ports.Part number)) =
-      IsStopped count before number (λ sum. ⊤)
-  StopsWith count before statuses.OutOfMemory = ⊤
-  StopsWith count before _ = ⊥
+  StopsWith count before status = (number : ℕ) × (parts : List SketchValues)
+      × (sum : SketchValues) × AreJoined 2 before parts sum × (number ≡ length parts + 2)
+      × (number ≤ count) × IsNotAdded number status (λ part why. unlike sum part ≡ Some why)
 
   -- The same of all parts, over a sketch that there may be.
   pub record ComesNext (count number : ℕ) (sketch : Option SketchValues)
@@ -95,19 +99,9 @@ module _ (files : Option (ℕ → Option (List ℕ))) where
     pub loaded : AreParts files 1 parts
     pub add_up : AddUp sketch parts
 
-  abbrev pub IsHalted : ℕ → Option SketchValues → ℕ → (List SketchValues → Type 0) → Type 0
-  IsHalted count sketch number holds =
-      (parts : List SketchValues) × ComesNext count number sketch parts × holds parts
-
   abbrev pub HaltsWith : ℕ → Option SketchValues → SketchStatus → Type 0
-  HaltsWith count sketch (statuses.BadSketch number offset) = IsHalted count sketch number
-      (λ parts. (file : Option (List ℕ)) × Finds files number file × IsBadFile file offset)
-  HaltsWith count sketch (statuses.Unlike number why) = IsHalted count sketch number
-      (λ parts. (part : SketchValues) × IsPart files number part × IsUnlike sketch parts part why)
-  HaltsWith count sketch (statuses.ReadFault (ports.Part number)) =
-      IsHalted count sketch number (λ parts. ⊤)
-  HaltsWith count sketch statuses.OutOfMemory = ⊤
-  HaltsWith count sketch _ = ⊥
+  HaltsWith count sketch status = (number : ℕ) × (parts : List SketchValues)
+      × ComesNext count number sketch parts × IsNotAdded number status (IsUnlike sketch parts)
 
   -- all parts were added up
   pub record AreSummed (count : ℕ) (sketch : Option SketchValues) (sum : SketchValues)
