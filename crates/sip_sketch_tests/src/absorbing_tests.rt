@@ -110,7 +110,7 @@ fn six_records() -> [Update; 6] {
     ]
 }
 
-fn three_records() -> [Update; 3] {
+pub(crate) fn three_records() -> [Update; 3] {
     [
         record(Side::First, 0, 3),
         record(Side::First, 2, 5),

@@ -2,7 +2,8 @@
 // zero bytes. The files were worked out by a calculation of their own.
 
 use crate::absorbing_tests::{
-    KINDS, TWO_PARTS, USED_OTHER, USED_PART, USED_SUM, kept, of_two, part_of, record,
+    KINDS, Part, TWO_PARTS, USED_OTHER, USED_PART, USED_SUM, kept, of_two, part_of, record,
+    three_records,
 };
 use crate::begin_tests::{desk, keeps_only};
 use crate::file_tests::WATCHED;
@@ -72,6 +73,19 @@ const MANY: [u8; 118] = [
     0xdb, 0x74, 0xd0, 0xbd, 0xfb, 0x70,
 ];
 
+// The sum of parts 1 and 2 at the same records, with a used seat for large entries of side 0. Its
+// hash is any number, and its total is 9.
+const USED_TOTAL: [u8; 118] = [
+    0x53, 0x49, 0x50, 0x4b, 0x01, 0x02, 0x00, 0x00, 0x00, 0x02, 0x00, 0x00, 0x00, 0x01, 0x00, 0x00,
+    0x00, 0x02, 0x00, 0x00, 0x00, 0x00, 0x00, 0x00, 0x00, 0x09, 0x00, 0x00, 0x00, 0x00, 0x00, 0x00,
+    0x00, 0x00, 0x00, 0x00, 0x00, 0x00, 0x00, 0x00, 0x00, 0x03, 0x00, 0xb8, 0x26, 0x1a, 0xe7, 0xdb,
+    0x4f, 0xab, 0x00, 0x01, 0x05, 0x01, 0x12, 0x07, 0xbe, 0x34, 0x15, 0xbc, 0x17, 0x0e, 0x05, 0x17,
+    0xb0, 0xca, 0x7c, 0xad, 0x4b, 0xa8, 0x00, 0x00, 0x00, 0x00, 0x00, 0x00, 0x00, 0x07, 0x00, 0x00,
+    0x00, 0x00, 0x40, 0x00, 0x00, 0x08, 0xfd, 0xe7, 0xec, 0xc9, 0x89, 0xca, 0x1c, 0x96, 0x75, 0xa6,
+    0x7a, 0xbe, 0x08, 0xb1, 0xf2, 0xba, 0xec, 0xf3, 0xa5, 0xdd, 0x38, 0x97, 0x89, 0xdb, 0x70, 0xc8,
+    0x2c, 0x0d, 0xf6, 0x35, 0x15, 0xfa,
+];
+
 // What a file has.
 #[derive(Clone, Copy, PartialEq, Eq)]
 enum File {
@@ -131,12 +145,14 @@ const SUMS: [(File, &[File], File); 8] = [
 ];
 
 // The file of the sketch, those of the parts in order, and which part is refused and why.
-const REFUSED: [(File, &[File], u32, Unlike); 14] = [
+const REFUSED: [(File, &[File], u32, Unlike); 15] = [
     // the shape is that of the sketch where it is there, and else of the first part
     (File::Only, BOTH, 1, Unlike::Shape),
     (File::Both, &[File::Only], 1, Unlike::Shape),
     (File::Missing, &[File::One, File::Only], 2, Unlike::Shape),
     (File::Missing, &[File::Both], 1, Unlike::Whole),
+    // the part behind it is no sketch, and is not loaded
+    (File::Missing, &[File::Both, File::Cut], 1, Unlike::Whole),
     (File::Missing, &[File::One, File::Both], 2, Unlike::Whole),
     (
         File::Missing,
@@ -172,7 +188,7 @@ const BAD: [(File, &[File], u32, u64); 6] = [
     (File::Missing, &[File::Missing], 1, 0),
     (File::Missing, &[File::One, File::Missing], 2, 0),
     (File::One, &[File::One, File::Cut], 2, 3),
-    // the part in front of it is refused, and this one is not loaded
+    // the part behind it is whole, and is not loaded
     (File::Missing, &[File::Cut, File::Both], 1, 3),
 ];
 
@@ -357,14 +373,30 @@ fn a_sum_is_not_watched(rt: HostRuntime) -> Result<(), Fail> {
     Ok(())
 }
 
-// The file of one of two parts, of whose first side the weight is so great.
-fn heavy(alloc: Global, part: u32, weight: i64) -> Result<Vec<u8>, Fail> {
+// The file of a part.
+fn file_of(alloc: Global, part: &Part<'_>) -> Result<Vec<u8>, Fail> {
     let mut bytes = Vec::new(alloc);
-    let updates = [record(Side::First, 1, weight)];
-    if let Some(sketch) = kept(alloc, &of_two(part, &KINDS, &updates)) {
+    if let Some(sketch) = kept(alloc, part) {
         sketch.write(&mut bytes)?;
     }
     Ok(bytes)
+}
+
+// A total of 9 is above the weight of part 1, which is 8.
+#[test]
+fn a_used_total_may_be_above_the_weight_of_a_part(rt: HostRuntime) -> Result<(), Fail> {
+    let alloc = rt.alloc();
+    let kinds = [SeatKind::Heavy(Side::First)];
+    let three = three_records();
+    let one = file_of(alloc, &of_two(1, &kinds, &three[..2]))?;
+    let two = file_of(alloc, &of_two(2, &kinds, &three[2..]))?;
+    let files = vec![in alloc; None, Some(one), Some(two)]?;
+    let mut parts = MemoryFiles::new(files, Vec::new(alloc));
+    let mut desk = desk(alloc, Some(&USED_TOTAL), 0, 0)?;
+    let status = merged(alloc, &mut parts, 2, &mut desk);
+    assert!(rt; status == Some(SketchStatus::Wrote), "the status");
+    assert!(rt; desk.file() == Some(USED_TOTAL.as_slice()), "the used seat");
+    Ok(())
 }
 
 #[test]
@@ -375,8 +407,11 @@ fn a_sum_is_not_too_heavy(rt: HostRuntime) -> Result<(), Fail> {
         why: Unlike::Heavy(Side::First),
     };
     for (weight, status) in [((1 << 29) - 1, SketchStatus::Wrote), (1 << 29, unlike)] {
-        let one = heavy(alloc, 1, 1 << 29)?;
-        let two = heavy(alloc, 2, weight)?;
+        let one = file_of(
+            alloc,
+            &of_two(1, &KINDS, &[record(Side::First, 1, 1 << 29)]),
+        )?;
+        let two = file_of(alloc, &of_two(2, &KINDS, &[record(Side::First, 1, weight)]))?;
         let files = vec![in alloc; None, Some(one), Some(two)]?;
         let mut parts = MemoryFiles::new(files, Vec::new(alloc));
         let mut desk = desk(alloc, None, 0, 0)?;
@@ -388,24 +423,16 @@ fn a_sum_is_not_too_heavy(rt: HostRuntime) -> Result<(), Fail> {
     Ok(())
 }
 
-// The file of one of 1,024 parts, with one record of one of four items.
-fn one_of_many(alloc: Global, part: u32) -> Result<Vec<u8>, Fail> {
-    let mut bytes = Vec::new(alloc);
-    let updates = [record(Side::First, u64::from(part) % 4, 1)];
-    let kinds = [SeatKind::Sums(Side::First)];
-    if let Some(sketch) = kept(alloc, &part_of(part, MOST_PARTS, &kinds, &updates)) {
-        sketch.write(&mut bytes)?;
-    }
-    Ok(bytes)
-}
-
 // The items come to 256 each, so their extension is 256 at any point.
 #[test]
 fn a_thousand_parts_add_up(rt: HostRuntime) -> Result<(), Fail> {
     let alloc = rt.alloc();
+    let kinds = [SeatKind::Sums(Side::First)];
     let mut files = vec![in alloc; None]?;
     for part in 1..MOST_PARTS + 1 {
-        files.push(Some(one_of_many(alloc, part)?))?;
+        let updates = [record(Side::First, u64::from(part) % 4, 1)];
+        let file = file_of(alloc, &part_of(part, MOST_PARTS, &kinds, &updates))?;
+        files.push(Some(file))?;
     }
     let mut parts = MemoryFiles::new(files, Vec::new(alloc));
     let mut desk = desk(alloc, None, 0, 0)?;
