@@ -13,6 +13,7 @@ use Rattle.sip_vector.specs.declared.update.Update.{Update}
 use Rattle.sip_sketch.specs.declared.cursor.Size.TheVariants.{Long}
 use Rattle.sip_sketch.specs.declared.kind.SeatKind.{SeatKind}
 use Rattle.sip_sketch.specs.declared.kind.SeatKind.TheVariants.{Entries, Sums as SumsOf, Products, Heavy}
+use Rattle.sip_sketch.specs.declared.sum.Sum.TheInside.{Inside}
 use Rattle.sip_sketch.specs.declared.unlike.Unlike.{Unlike}
 use Rattle.sip_sketch.specs.declared.unlike.Unlike.TheVariants as reasons
 use Rattle.sip_sketch.specs.Fields.{Field, IsValue}
@@ -29,7 +30,11 @@ use Rattle.sip_sketch.proofs.Alike.{alike-length, is_so, joins_from, none_used, 
 use Rattle.sip_sketch.proofs.Totals.{neither}
 use Rattle.sip_sketch.proofs.Kept.{IsTold, heavy_field, weight_told}
 use Rattle.sip_sketch.proofs.Summing.{all_add_up, sum_sketch, sum_stands}
-use Rattle.sip_sketch.proofs.Whole.{HeadFits, SeatFits, fits_from, head_from, ranged_from, ranged_value, sketch_from}
+use Rattle.sip_sketch.proofs.Whole.{HeadFits, SeatFits, fits_from, head_from, light, ranged_from, ranged_value, sketch_from}
+
+-- what is seen of a sum that has these fields
+abbrev pub sum_seen : Inside → SketchValues
+sum_seen s = record { depth = s.depth; parts = s.parts; tally = s.tally; seats = s.seats.items }
 
 -- ---- a seat
 
@@ -178,11 +183,6 @@ place-length [] ps long = refl
 place-length (w ∷ ws) [] long = absurd (omega (arith, long))
 place-length (w ∷ ws) (p ∷ ps) long = ap suc (place-length ws ps (omega (arith, long)))
 
-light : (s : SketchValues) → IsSketch s → (s.tally.first ≤ most_weight) × (s.tally.second ≤ most_weight)
-light s is =
-    let head = head_from s is in
-    ((ranged_from Long 0 most_weight s.tally.first head.first).1, (ranged_from Long 0 most_weight s.tally.second head.second).1)
-
 -- it has the shape of a sketch that there may be
 abbrev HasShape : Option SketchValues → SketchValues → Type 0
 HasShape None part = ⊤
@@ -253,6 +253,12 @@ seats_add (s ∷ seats) (more ∷ others) (one, all) = (seat_adds s more one, se
 pub joined_adds : (s part : SketchValues) → IsSketch (cleared s) → IsSketch part → unlike s part ≡ None → AllZip AddUp s.seats part.seats
 joined_adds s part is other none =
     seats_add s.seats part.seats (all_add_up (cleared s) part is other (joins_from (cleared s) part (unlike_cleared s part ∙ none)))
+
+-- what a call answers of it
+pub is_free : (s part now : SketchValues) (seats : List SeatValues) (why : Option Unlike) → seats ≡ s.seats → part ≡ now
+    → why ≡ unlike (record { depth = s.depth; parts = s.parts; tally = s.tally; seats = seats }) now → why ≡ None → unlike s part ≡ None
+is_free s part now seats why same view is none =
+    ap₂ (λ (l : List SeatValues) (x : SketchValues). unlike (record { depth = s.depth; parts = s.parts; tally = s.tally; seats = l }) x) (sym same) view ∙ sym is ∙ none
 
 -- ---- which seats are used
 

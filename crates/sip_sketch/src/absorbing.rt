@@ -1,10 +1,11 @@
 //! Adds the next part of a stream to a sketch.
 
-ghost use Rattle.std.specs.Prelude.{◌≡◌, ◌==◌, ◌&&◌, ◌++◌, List, None, Some, IfOk, IfErr, OnOk};
+ghost use Rattle.std.specs.Prelude.{◌≡◌, ◌≤◌, ◌==◌, ◌&&◌, ◌++◌, List, None, Some, IfOk, IfErr, OnOk};
 ghost use Rattle.std.specs.Prelude.{OnErr};
 ghost use Rattle.std.specs.Prelude.{bytes_eq};
 ghost use Rattle.std.specs.Cmp.Lexicographic.{pointwise};
 ghost use Rattle.std.specs.List.{AllZip};
+ghost use Rattle.sip_vector.specs.Streams.{most_weight};
 ghost use Rattle.sip_vector.specs.declared.update.Update.{Update as AnyUpdate};
 ghost use Rattle.sip_sketch.specs.Joining.{added, added_seats, any_used, same_seat, same_shape};
 ghost use Rattle.sip_sketch.specs.Joining.{is_whole, unlike};
@@ -95,6 +96,8 @@ pub(crate) fn unlike(
     seats: &[SketchSeat],
     part: &Sketch,
 ) -> Option<Unlike>
+    requires first { tally.now.first ≤ most_weight }
+    requires second { tally.now.second ≤ most_weight }
     ensures { result ≡ unlike (record {
       depth = depth;
       parts = parts.now;
