@@ -51,7 +51,7 @@ module _ (form : Form) (at every : Option ℕ) (start left : Option (List ℕ)) 
 pub record IsReady (form : Form) (at every : Option ℕ) (start left : Option (List ℕ)) (old mid : Option (List TalkEvent)) (s : SketchValues) (number : ℕ) : Type 0 where
   pub opened : IsOpened form at every start left old s
   pub talk : GoesOn old mid []
-  pub number : number ≡ begins_at at s.tally.count
+  pub place : number ≡ begins_at at s.tally.count
 
 pub ready : (form : Form) (at every : Option ℕ) (start left : Option (List ℕ)) (old mid : Option (List TalkEvent)) (s : SketchValues) (t : Tally) (number : ℕ) {bytes items : List ℕ}
     → IsSketch s × (bytes ≡ spelled_file s) → bytes ≡ items → Loads start old (Some items) → GoesOn old mid [] → t ≡ s.tally → number ≡ begins_at at t.count
@@ -67,7 +67,7 @@ ready form at every start left old mid s t number (is, spelled) same loads talk 
         begins = omega (arith, place, count, within);
       };
       talk = talk;
-      number = place;
+      place = place;
     }
 
 module _ {form : Form} {at every : Option ℕ} {start left : Option (List ℕ)} {old mid : Option (List TalkEvent)} {s : SketchValues} {number : ℕ}
@@ -95,7 +95,7 @@ module _ {form : Form} {at every : Option ℕ} {start left : Option (List ℕ)} 
     followed : (left' : Option (List ℕ)) (added : List Update) (pause : Pause) → AreAdded form s between left' added pause → (bytes : List ℕ) → left ≡ Some bytes → IsFollowed form at every s bytes left' added pause
     followed left' added pause reads bytes told =
         let (rest, lie, is) = read bytes told in
-        record { passed = passed; count = subst (λ n. n + length passed ≡ s.tally.count) here.number all; rest = rest; behind = lie; reads = λ stream stands. reads rest is stream stands }
+        record { passed = passed; count = subst (λ n. n + length passed ≡ s.tally.count) here.place all; rest = rest; behind = lie; reads = λ stream stands. reads rest is stream stands }
 
     was_added : (left' : Option (List ℕ)) (new : Option (List TalkEvent)) (pause : Pause) → Stored form every s between mid left' new pause
         → Came form at every start left old (λ x added. IsStored every x added old new) (λ x bytes added. IsFollowed form at every x bytes left' added pause)
@@ -137,7 +137,7 @@ module _ {form : Form} {at every : Option ℕ} {start left : Option (List ℕ)} 
 
   module _ (left' : Option (List ℕ)) (place : ℕ) (passed : List Update) (along : place ≡ number + length passed) (fewer : place < s.tally.count) where
     behind : (pause : Pause) → ((bytes : List ℕ) → left ≡ Some bytes → ReadsTo s.depth form [] bytes left' passed pause) → (bytes : List ℕ) → left ≡ Some bytes → IsBehind form at every s bytes left' place pause
-    behind pause read bytes told = record { passed = passed; number = along ∙ ap (λ n. n + length passed) here.number; fewer = fewer; reads = read bytes told }
+    behind pause read bytes told = record { passed = passed; number = along ∙ ap (λ n. n + length passed) here.place; fewer = fewer; reads = read bytes told }
 
     pub ended_before : (new : Option (List TalkEvent)) → GoesOn mid new [] → ((bytes : List ℕ) → left ≡ Some bytes → ReadsTo s.depth form [] bytes left' passed Ended) → Watches form at every start left old left' new (statuses.Behind place)
     ended_before new same read = (s, here.opened, [], (refl, GoesOn-trans old mid new [] [] here.talk same), behind Ended read)

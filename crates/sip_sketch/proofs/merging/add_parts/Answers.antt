@@ -1,10 +1,9 @@
 -- One part more.
-use Rattle.std.proofs.Common.{◌≡◌, ℕ, ◌+◌, List, [], ◌∷◌, ◌++◌, length, sym, subst, ◌∙◌, arith, rules, refl, length-append}
+use Rattle.std.proofs.Common.{◌+◌, [], ◌∷◌, ◌++◌, length, sym, subst, ◌∙◌, arith, rules, refl, length-append}
 use Rattle.std.proofs.lemmas.Result.{err_from_is_err_and}
 use Rattle.sip_sketch.specs.Merging.{IsPart, Joins}
 use Rattle.sip_sketch.specs.Risen.{HasRisen}
 use Rattle.sip_sketch.specs.inside.Causes.{with_parts}
-use Rattle.sip_sketch.specs.Sketches.{SketchValues}
 use Rattle.sip_sketch.specs.declared.status.SketchStatus.{SketchStatus}
 use Rattle.sip_sketch.proofs.Causes.{parts_since}
 use Rattle.sip_sketch.proofs.Merged.{joins_more, parts_more}

@@ -1,5 +1,5 @@
 -- The parts so far were loaded and added up.
-use Rattle.std.proofs.Common.{◌≡◌, ℕ, ◌+◌, List, length}
+use Rattle.std.proofs.Common.{◌≡◌, ◌+◌, List, length}
 use Rattle.sip_ports.specs.Ports.{Lasts}
 use Rattle.sip_sketch.specs.Sketches.{SketchValues}
 use Rattle.sip_sketch.specs.inside.Merging.{AreJoined}

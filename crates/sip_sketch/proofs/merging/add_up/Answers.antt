@@ -1,5 +1,5 @@
 -- The first part, and those behind it.
-use Rattle.std.proofs.Common.{◌≡◌, [], sym, subst, inl, inr, refl}
+use Rattle.std.proofs.Common.{[], sym, subst, inl, inr, refl}
 use Rattle.std.proofs.lemmas.Result.{err_from_is_err_and}
 use Rattle.sip_sketch.specs.Merging.{in_place}
 use Rattle.sip_sketch.specs.Risen.{HasRisen}

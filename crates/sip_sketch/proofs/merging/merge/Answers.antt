@@ -1,5 +1,5 @@
 -- How the call ended.
-use Rattle.std.proofs.Common.{◌≡◌, sym, subst, ◌∙◌}
+use Rattle.std.proofs.Common.{sym, subst, ◌∙◌}
 use Rattle.sip_sketch.specs.Risen.{counts}
 use Rattle.sip_sketch.specs.Sketches.{SketchValues, spelled_file}
 use Rattle.sip_sketch.specs.declared.status.SketchStatus.TheVariants as statuses

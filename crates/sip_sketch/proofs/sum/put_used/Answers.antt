@@ -1,8 +1,8 @@
 -- One used seat more is in its place.
-use Rattle.std.proofs.Common.{◌≡◌, ℕ, ◌+◌, ◌<◌, ◌≤◌, true, false, List, length, get_or, set, sym, ap, subst, ◌∙◌, arith, le_refl}
+use Rattle.std.proofs.Common.{◌≡◌, ◌<◌, ◌≤◌, true, false, length, get_or, set, sym, ap, ◌∙◌, arith, le_refl}
 use Rattle.std.proofs.lemmas.List.{get_or_default, get_or-set_other, length-set}
 use Rattle.sip_sketch.specs.Sketches.{SeatValues}
-use Rattle.sip_sketch.proofs.Placing.{placed-all, placed-unused, placed-used, placed_to}
+use Rattle.sip_sketch.proofs.Placing.{placed-all, placed-unused, placed-used}
 use Rattle.sip_sketch.proofs.sum.put_used.Goals.{then-is_used, else-is_used}
 use Rattle.sip_sketch.proofs.sum.put_used.Goals as goal
 

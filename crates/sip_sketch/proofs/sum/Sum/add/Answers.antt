@@ -1,5 +1,5 @@
 -- The next part, where no reason stands against it.
-use Rattle.std.proofs.Common.{◌≡◌, None, List, length, sym, ap, ap₂, subst, ◌∙◌}
+use Rattle.std.proofs.Common.{List, length, sym, ap, ap₂, subst, ◌∙◌}
 use Rattle.std.specs.List.{AllZip}
 use Rattle.std.proofs.lemmas.List.{with_items_is}
 use Rattle.sip_sketch.specs.Joining.{added_seats}

@@ -1,5 +1,5 @@
 -- The first part, where no reason stands against it.
-use Rattle.std.proofs.Common.{◌≡◌, None, sym, ap, subst, ◌∙◌}
+use Rattle.std.proofs.Common.{sym, ap, subst, ◌∙◌}
 use Rattle.sip_sketch.specs.Merging.{unlike_first}
 use Rattle.sip_sketch.specs.Sketches.{IsSketch, SketchValues}
 use Rattle.sip_sketch.specs.inside.Merging.{cleared}
