@@ -3,7 +3,7 @@ use Rattle.std.proofs.Common.{◌≡◌, ℕ, zero, suc, ◌+◌, ◌-◌, ◌<�
 use Rattle.std.specs.Prelude.{nat_eq, ⊤}
 use Rattle.std.specs.Cmp.Lexicographic.{pointwise}
 use Rattle.std.specs.List.{AllZip}
-use Rattle.std.proofs.lemmas.Bool.{and_parts, eqb-true, ltb-false}
+use Rattle.std.proofs.lemmas.Bool.{and_parts, ltb-false}
 use Rattle.std.proofs.lemmas.List.Elements.{All-nil, All-cons, All-head, All-tail}
 use Rattle.sip_field.specs.Moduli.{m61_modulus}
 use Rattle.sip_vector.specs.Streams.{most_weight}
@@ -17,7 +17,7 @@ use Rattle.sip_sketch.specs.declared.sum.Sum.TheInside.{Inside}
 use Rattle.sip_sketch.specs.declared.unlike.Unlike.{Unlike}
 use Rattle.sip_sketch.specs.declared.unlike.Unlike.TheVariants as reasons
 use Rattle.sip_sketch.specs.Fields.{Field, IsValue}
-use Rattle.sip_sketch.specs.Joining.{added, added_seat, added_seats, added_second, any_used, is_whole, same_seat, same_shape, unlike}
+use Rattle.sip_sketch.specs.Joining.{added, added_seat, added_seats, any_used, is_whole, same_seat, same_shape, unlike}
 use Rattle.sip_sketch.specs.Merging.{HasUsed, in_place, lacks_of, seats_in_place, unfit, unlike_first}
 use Rattle.sip_sketch.specs.Sketches.{IsSketch, SeatValues, SketchValues, byte, element, most_seats}
 use Rattle.sip_sketch.specs.Standing.{SeatStands, Stands}

@@ -1,10 +1,9 @@
 -- What the parts add up to, and what a call did that added them up, by how its steps ended.
-use Rattle.std.proofs.Common.{◌≡◌, ◌⊎◌, ℕ, zero, suc, ◌+◌, ◌<◌, ◌≤◌, List, [], ◌∷◌, ◌++◌, length, take, flat_map, Some, None, inl, inr, refl, sym, ap, subst, ◌∙◌, arith, append-nil, append_assoc}
-use Rattle.std.specs.Prelude.{⊤}
+use Rattle.std.proofs.Common.{◌≡◌, ℕ, zero, suc, ◌+◌, ◌≤◌, List, [], ◌∷◌, ◌++◌, length, take, flat_map, Some, None, inl, inr, refl, sym, ap, subst, arith, append-nil, append_assoc}
 use Rattle.std.specs.List.{AllZip}
 use Rattle.std.specs.Option.{unwrap_or}
 use Rattle.std.specs.declared.option.Option.{Option}
-use Rattle.sip_ports.specs.Desk.{Loads, steps}
+use Rattle.sip_ports.specs.Desk.{steps}
 use Rattle.sip_ports.specs.Ports.{GoesOn}
 use Rattle.sip_ports.specs.declared.port.TalkEvent.{TalkEvent}
 use Rattle.sip_ports.proofs.TalkLemmas.{GoesOn-trans}
@@ -12,10 +11,9 @@ use Rattle.sip_vector.specs.declared.update.Update.{Update}
 use Rattle.sip_sketch.specs.Files.{Finds}
 use Rattle.sip_sketch.specs.Joining.{added, unlike}
 use Rattle.sip_sketch.specs.Loaded.{IsBadFile}
-use Rattle.sip_sketch.specs.Merging.{AddUp, AreParts, HasUsed, IsBadPart, IsCut, IsNew, IsNext, IsPart, IsStored, IsSum, IsThere, IsUnlike, Joins, Merges, Next, Sums, in_place, lacks_of, unlike_first}
+use Rattle.sip_sketch.specs.Merging.{AreParts, HasUsed, IsBadPart, IsNew, IsNext, IsPart, IsSum, IsThere, Joins, Merges, Sums, in_place, lacks_of, unlike_first}
 use Rattle.sip_sketch.specs.Sketches.{IsSketch, SketchValues, spelled_file}
 use Rattle.sip_sketch.specs.Standing.{Stands}
-use Rattle.sip_sketch.specs.declared.status.SketchPort.TheVariants as ports
 use Rattle.sip_sketch.specs.declared.status.SketchStatus.{SketchStatus}
 use Rattle.sip_sketch.specs.declared.status.SketchStatus.TheVariants as statuses
 use Rattle.sip_sketch.specs.declared.unlike.Unlike.{Unlike}

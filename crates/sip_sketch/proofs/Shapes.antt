@@ -1,10 +1,10 @@
 -- A sum has the shape of the sketch in whose place it is, and else that of its first part.
-use Rattle.std.proofs.Common.{◌≡◌, ℕ, Bool, true, false, cond, not, ◌&&◌, List, [], ◌∷◌, Some, None, refl, sym, ap, ap₂, subst, ◌∙◌}
+use Rattle.std.proofs.Common.{◌≡◌, Bool, true, false, cond, not, ◌&&◌, List, [], ◌∷◌, Some, None, refl, sym, ap, ap₂, subst, ◌∙◌}
 use Rattle.std.specs.Prelude.{bytes_eq, nat_eq}
 use Rattle.std.specs.Cmp.Lexicographic.{pointwise}
 use Rattle.std.specs.List.{AllZip}
 use Rattle.std.proofs.lemmas.Bool.{and_parts, eqb-true}
-use Rattle.sip_sketch.specs.Joining.{added, added_seats, same_seat, same_shape, unlike}
+use Rattle.sip_sketch.specs.Joining.{added, added_seats, same_seat, same_shape}
 use Rattle.sip_sketch.specs.Merging.{Joins, Sums, in_place, seats_in_place, unfit, unlike_first}
 use Rattle.sip_sketch.specs.Sketches.{SeatValues, SketchValues, code_of}
 use Rattle.sip_sketch.specs.declared.unlike.Unlike.TheVariants as reasons

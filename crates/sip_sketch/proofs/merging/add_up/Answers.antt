@@ -18,9 +18,12 @@ returns-in_err-first-clause-why g c =
     rw is (subst (HaltsWith files c.args.count c.args.sketch) (sym same) (1, [], first_next files c.args.count c.args.sketch c.requires.least, inl c.in_err-first.ensures.why))
 
 pub returns-in-Err-clause-why : goal.returns-in-Err-clause-why
-returns-in-Err-clause-why g c =
-    (1, [], first_next (g.P.SketchFiles.content c.args.parts.now) c.args.count c.args.sketch c.requires.least,
-    inr (c.in_ok-first.first, c.in-Err.why, c.in_ok-first.ensures.found, c.in-Err.ensures.why, refl))
+returns-in-Err-clause-why g c = (
+  1,
+  [],
+  first_next (g.P.SketchFiles.content c.args.parts.now) c.args.count c.args.sketch c.requires.least,
+  inr (c.in_ok-first.first, c.in-Err.why, c.in_ok-first.ensures.found, c.in-Err.ensures.why, refl),
+)
 
 pub returns-in_err-add_parts-clause-why : goal.returns-in_err-add_parts-clause-why
 returns-in_err-add_parts-clause-why g c =
@@ -38,8 +41,8 @@ returns-in_err-add_parts-clause-cause g c =
     let d = g.P.SketchFiles.faults c.add_parts.new.parts in
     let (status, is, same) = err_from_is_err_and c.from_residual-in_err-add_parts.result c.from_residual-in_err-add_parts.ensures.1 in
     rw is (λ before now.
-        parts_since before now a b d status c.load_part.ensures.parts.later
-        (subst (λ (x : SketchStatus). HasRisen (with_parts before b) (with_parts now d) x) (sym same) (c.in_err-add_parts.ensures.cause before now)))
+    parts_since before now a b d status c.load_part.ensures.parts.later
+    (subst (λ (x : SketchStatus). HasRisen (with_parts before b) (with_parts now d) x) (sym same) (c.in_err-add_parts.ensures.cause before now)))
 
 pub returns-clause-summed : goal.returns-clause-summed
 returns-clause-summed g c =
