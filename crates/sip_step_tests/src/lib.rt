@@ -1,0 +1,16 @@
+//! Both ends of a talk without a link, over worked rows, in pieces of many sizes. Nothing but tests
+//! stands here, so that this layer is proved once.
+#![tactic(auto)]
+
+#[cfg(test)]
+mod asking;
+#[cfg(test)]
+mod asking_tests;
+#[cfg(test)]
+mod both_ends_tests;
+#[cfg(test)]
+mod facts;
+#[cfg(test)]
+mod serving;
+#[cfg(test)]
+mod serving_tests;

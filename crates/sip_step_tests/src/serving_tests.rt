@@ -1,0 +1,189 @@
+// A helper without a link, over talks that were worked out by hand.
+use crate::asking::pieces_of;
+use crate::facts::expect;
+use crate::serving::served;
+use sip_helper::HelpStatus;
+use std::alloc::Global;
+use std::process::Abort;
+use std::test::Fail;
+
+// The opening of a talk over four items, the vector (3, 0, 5, 1) and its end.
+const OPEN: [u8; 5] = [1, 0, 2, 1, 2];
+
+pub(crate) const STREAM: [u8; 52] = [
+    1, 0, 2, 1, 2, 2, 0, 41, 0, 3, 0, 0, 0, 0, 0, 0, 0, 0, 0, 0, 0, 0, 3, 0, 0, 0, 0, 2, 0, 0, 0,
+    0, 0, 0, 0, 5, 0, 0, 0, 0, 3, 0, 0, 0, 0, 0, 0, 0, 1, 3, 0, 0,
+];
+
+// The query for the entries 1 to 2, the challenge 2, and a Bye.
+const QUERY: [u8; 12] = [4, 0, 9, 1, 0, 0, 0, 1, 0, 0, 0, 2];
+
+const REVEAL: [u8; 11] = [5, 0, 8, 0, 0, 0, 0, 0, 0, 0, 2];
+
+const BYE: [u8; 3] = [6, 0, 0];
+
+// The entry (2, 5) and the siblings 3 and 1; then no siblings.
+const ENTRY: [u8; 37] = [
+    0x13, 0, 0x0e, 0, 1, 0, 0, 0, 2, 0, 0, 0, 0, 0, 0, 0, 5, 0x14, 0, 0x11, 3, 0, 0, 0, 0, 0, 0, 0,
+    3, 0, 0, 0, 0, 0, 0, 0, 1,
+];
+
+const NO_SIBLINGS: [u8; 4] = [0x14, 0, 1, 0];
+
+const OUT_OF_TURN: [u8; 4] = [0x18, 0, 1, 4];
+
+// What the other end says, part by part, whether it closes then, and which call of the sink fails;
+// what comes of it: how the talk ends, how many bytes are taken, and what is sent.
+struct Row {
+    name: &'static str,
+    said: &'static [&'static [u8]],
+    closes: bool,
+    fails: &'static [u64],
+    status: Option<HelpStatus>,
+    taken: usize,
+    sent: &'static [&'static [u8]],
+}
+
+const ROWS: &[Row] = &[
+    Row {
+        name: "a whole talk",
+        said: &[&STREAM, &QUERY, &REVEAL, &BYE],
+        closes: false,
+        fails: &[],
+        status: Some(HelpStatus::Served),
+        taken: 78,
+        sent: &[&ENTRY, &NO_SIBLINGS],
+    },
+    Row {
+        name: "bytes behind a Bye are left",
+        said: &[&STREAM, &QUERY, &REVEAL, &BYE, &QUERY],
+        closes: true,
+        fails: &[],
+        status: Some(HelpStatus::Served),
+        taken: 78,
+        sent: &[&ENTRY, &NO_SIBLINGS],
+    },
+    Row {
+        name: "more is to come",
+        said: &[&STREAM, &QUERY, &REVEAL, &[6, 0]],
+        closes: false,
+        fails: &[],
+        status: None,
+        taken: 77,
+        sent: &[&ENTRY, &NO_SIBLINGS],
+    },
+    Row {
+        name: "the other end closes inside a frame",
+        said: &[&STREAM, &QUERY, &REVEAL, &[6, 0]],
+        closes: true,
+        fails: &[],
+        status: Some(HelpStatus::PeerClosed),
+        taken: 77,
+        sent: &[&ENTRY, &NO_SIBLINGS],
+    },
+    Row {
+        name: "a query before the stream",
+        said: &[&OPEN, &QUERY, &BYE],
+        closes: false,
+        fails: &[],
+        status: Some(HelpStatus::BadFrame { offset: 5 }),
+        taken: 17,
+        sent: &[&OUT_OF_TURN],
+    },
+    Row {
+        name: "a challenge too many",
+        said: &[&STREAM, &QUERY, &REVEAL, &REVEAL, &BYE],
+        closes: false,
+        fails: &[],
+        status: Some(HelpStatus::BadFrame { offset: 75 }),
+        taken: 86,
+        sent: &[&ENTRY, &NO_SIBLINGS, &OUT_OF_TURN],
+    },
+    Row {
+        name: "a kind that no frame has",
+        said: &[&STREAM, &[9, 0, 0], &BYE],
+        closes: false,
+        fails: &[],
+        status: Some(HelpStatus::BadFrame { offset: 52 }),
+        taken: 55,
+        sent: &[],
+    },
+    Row {
+        name: "a length that the kind has not",
+        said: &[&STREAM, &[5, 0, 9], &BYE],
+        closes: false,
+        fails: &[],
+        status: Some(HelpStatus::BadFrame { offset: 52 }),
+        taken: 55,
+        sent: &[],
+    },
+    Row {
+        name: "the sink fails at the first reply",
+        said: &[&STREAM, &QUERY, &REVEAL, &BYE],
+        closes: false,
+        fails: &[1],
+        status: Some(HelpStatus::PeerFault),
+        taken: 64,
+        sent: &[],
+    },
+    Row {
+        name: "the sink fails inside the first reply",
+        said: &[&STREAM, &QUERY, &REVEAL, &BYE],
+        closes: true,
+        fails: &[3],
+        status: Some(HelpStatus::PeerFault),
+        taken: 64,
+        sent: &[&[0x13, 0, 0x0e, 0, 1, 0, 0, 0, 2, 0]],
+    },
+];
+
+// Whether this comes of a row whose bytes come in these pieces.
+fn is_so(alloc: Global, row: &Row, pieces: &[&[u8]]) -> Result<[bool; 3], Fail> {
+    let served = served(alloc, pieces, row.closes, row.fails)?;
+    Ok([
+        served.status == row.status,
+        served.taken == row.taken,
+        served.sent.as_slice() == row.sent.concat(alloc)?.as_slice(),
+    ])
+}
+
+// A row whose bytes come in pieces of one size.
+fn in_pieces(rt: &impl Abort, alloc: Global, row: &Row) -> Result<(), Fail> {
+    let bytes = row.said.concat(alloc)?;
+    let sizes = [
+        pieces_of(alloc, &bytes, 1)?,
+        pieces_of(alloc, &bytes, 2)?,
+        pieces_of(alloc, &bytes, 7)?,
+        pieces_of(alloc, &bytes, 100)?,
+    ];
+    for pieces in sizes.iter() {
+        expect(rt, row.name, &is_so(alloc, row, pieces)?);
+    }
+    Ok(())
+}
+
+// A row whose bytes are cut in two, at each byte.
+fn cut_in_two(rt: &impl Abort, alloc: Global, row: &Row) -> Result<(), Fail> {
+    let bytes = row.said.concat(alloc)?;
+    for cut in 0..bytes.len() {
+        let (front, rest) = bytes.split_at(cut);
+        expect(rt, row.name, &is_so(alloc, row, &[front, rest])?);
+    }
+    Ok(())
+}
+
+#[test]
+fn a_talk_in_pieces_of_one_size(rt: HostRuntime) -> Result<(), Fail> {
+    for row in ROWS.iter() {
+        in_pieces(&rt, rt.alloc(), row)?;
+    }
+    Ok(())
+}
+
+#[test]
+fn a_talk_cut_in_two_at_each_byte(rt: HostRuntime) -> Result<(), Fail> {
+    for row in ROWS.iter() {
+        cut_in_two(&rt, rt.alloc(), row)?;
+    }
+    Ok(())
+}

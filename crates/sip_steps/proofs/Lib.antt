@@ -1,0 +1,2 @@
+pub mod OneQuestion
+pub mod OneTalk

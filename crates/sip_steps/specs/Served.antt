@@ -1,0 +1,50 @@
+-- A helper's end of a talk without a link: what its bytes so far are.
+use Rattle.std.specs.Prelude.{◌≡◌, ℕ, ◌<◌, Bool, List, [], ◌∷◌, ◌++◌, IsTrue, length, Option, Some}
+use Rattle.std.specs.Prelude.{None, is_none, if◌then◌else◌}
+use Rattle.sip_ports.specs.declared.port.TalkEvent.{TalkEvent}
+use Rattle.sip_ports.specs.declared.port.TalkEvent.TheVariants.{Ended}
+use Rattle.sip_ports.specs.Ports.{GoesOn, heard, ins, outs, written}
+use Rattle.sip_wire.specs.Frames.{frame_bytes}
+use Rattle.sip_wire.specs.Spelling.{asked}
+use Rattle.sip_helper.specs.declared.status.HelpStatus.{HelpStatus}
+use Rattle.sip_helper.specs.Rules.{ServesBy, TurnRules}
+use Rattle.sip_helper.specs.UnderWay.{UnderWay}
+use Rattle.sip_steps.specs.declared.serving.Serving.{Serving}
+
+module _ {H : Type 0} (r : TurnRules H) (left : H → ℕ) (is_live : H → Bool) (first : H)
+    (events : List TalkEvent) where
+  -- these events are whole turns, each with its reply, and behind them a part of a frame
+  pub record Goes (s : Serving H) : Type 0 where
+    pub before : List TalkEvent
+    pub turns : UnderWay r left first 0 (Some []) (Some before) s.helper s.offset
+    pub live : IsTrue (is_live s.helper)
+    pub last : events ≡ before ++ ins (frame_bytes s.frame)
+    pub short : length (frame_bytes s.frame)
+        < asked (r.version s.helper) (r.place s.helper) (frame_bytes s.frame)
+
+  -- by how the talk ended, where it did
+  abbrev pub IsServedBy : Serving H → Option HelpStatus → Type 0
+  IsServedBy s None = Goes s
+  IsServedBy s (Some status) = ServesBy r first (Some []) (Some events) status
+
+  -- These events are a talk of the helper's rules, as far as it is: as they are on a link.
+  abbrev pub IsServed : Serving H → Type 0
+  IsServed s = IsServedBy s s.status
+
+-- It was begun, and nothing but its own calls changed it.
+abbrev pub HasBegun : {H : Type 0} → TurnRules H → (H → ℕ) → (H → Bool) → Serving H → Type 0
+HasBegun {H} r left is_live s = (first : H) × (events : List TalkEvent)
+    × IsServed r left is_live first events s
+
+-- Behind earlier events come more: these bytes came, and what was sent went out to where `old` and
+-- `new` are told. `After` says what the events with them are.
+pub record Passes (old new : Option (List TalkEvent)) (took : List ℕ) (events : List TalkEvent)
+    (After : List TalkEvent → Type 0) : Type 0 where
+  pub more : List TalkEvent
+  pub came : heard more ≡ took
+  pub went : GoesOn old new (outs (written more))
+  pub after : After (events ++ more)
+
+-- that the other end had closed, where the talk had not ended
+abbrev pub end_seen : Option HelpStatus → List TalkEvent
+end_seen status = if is_none status then Ended ∷ [] else []

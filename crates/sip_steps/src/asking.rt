@@ -1,0 +1,170 @@
+//! One question, asked without a link.
+
+ghost use Rattle.std.specs.Prelude.{◌≡◌, ◌≤◌, ◌++◌, [], ℕ, List, false, true, length, take, IfOk};
+ghost use Rattle.std.specs.Prelude.{IsTrue, OnOk, OnErr, Ok, Some};
+ghost use Rattle.sip_ports.specs.declared.port.TalkEvent.{TalkEvent as AnyEvent};
+ghost use Rattle.sip_ports.specs.Ports.{HasCause, SendsWhole, ins, outs};
+ghost use Rattle.sip_wire.specs.declared.message.Message.{Message as AnyMessage};
+ghost use Rattle.sip_wire.specs.Spelling.{fits};
+ghost use Rattle.sip_replies.specs.Following.{is_due, is_hearing, verdict_of};
+ghost use Rattle.sip_replies.specs.Protocols.{Begins};
+ghost use Rattle.sip_steps.specs.Asked.{IsAsked, IsBegun, due_bytes, end_heard, pairs_of};
+
+use sip_field::OutOfMemory;
+use sip_ports::{Link, PortStop};
+use sip_replies::{AskStop, Check, Request, Said, Turn};
+use sip_vector::Entry;
+use sip_wire::{Frame, Version};
+use std::alloc::Global;
+
+/// One question that is under way, and all that it needs: its check, the places of its answer, room
+/// for one frame, and where in its talk it is.
+///
+/// What is [`due`](Asking::due) is sent, and what comes is [fed](Asking::feed), until there is a
+/// [`verdict`](Asking::verdict). A caller sends what is due after `begin` and after each `feed`.
+/// Memory is taken by [`begin`](Asking::begin) alone, and the time is that of the bytes.
+#[derive(Drop)]
+pub struct Asking<C: Check + Drop, Q: Request + Drop> {
+    check: C,
+    request: Q,
+    places: Vec<Entry>,
+    frame: Frame,
+    turn: Turn,
+}
+
+impl<C: Check + Drop, Q: Request + Drop> Asking<C, Q> {
+    /// Before anything was said. The places are those that the check needs for its answer. Where
+    /// the check knows the answer without a reply, that is the verdict.
+    ///
+    /// # Errors
+    ///
+    /// `OutOfMemory` where there is none for a frame of 8,709 bytes.
+    pub fn begin(
+        alloc: Global,
+        check: C,
+        version: Version,
+        request: Q,
+        places: Vec<Entry>,
+    ) -> Result<Self, OutOfMemory>
+        requires begins { Begins (C.phase check) }
+        requires fits { IsTrue (fits version (Q.message request)) }
+        requires stood { (asked : C.Asked) × ((C.protocol asked).rules.version ≡ version)
+            × C.stands asked (C.protocol asked).rules.start check places.items }
+        ensures begun { IfOk result (IsBegun C.protocol C.stands C.phase Q.message) }
+        ensures asked { IfOk result (λ a. (asked : C.Asked)
+            → (C.protocol asked).rules.version ≡ version
+            → C.stands asked (C.protocol asked).rules.start check places.items
+            → IsAsked (C.protocol asked) (C.stands asked) C.phase Q.message (Q.message request)
+            (C.phase check).block [] a) }
+    {
+        let frame = Frame::new(alloc)?;
+        let turn = Turn::begin(&check, version);
+        Ok(Asking {
+            check,
+            request,
+            places,
+            frame,
+            turn,
+        })
+    }
+
+    /// Bytes are to be sent.
+    pub fn is_due(&self) -> bool
+        ensures { result ≡ is_due self.now.turn.stage }
+    {
+        !self.turn.is_hearing() && self.turn.verdict().is_none()
+    }
+
+    /// Bytes are to come.
+    pub fn is_waiting(&self) -> bool
+        ensures { result ≡ is_hearing self.now.turn.stage }
+    {
+        self.turn.is_hearing()
+    }
+
+    /// Sends what is due, each byte once, and nothing where nothing is due.
+    ///
+    /// # Errors
+    ///
+    /// Those of the link, which a front of what is due has then reached that is shorter than it.
+    /// All of it is due as before.
+    pub fn due<L: Link>(&mut self, out: &mut L) -> Result<(), PortStop>
+        requires begun { IsBegun C.protocol C.stands C.phase Q.message self.old }
+        ensures begun { IsBegun C.protocol C.stands C.phase Q.message self.new }
+        ensures talk { SendsWhole (L.talk out.old) (L.talk out.new) result
+            (due_bytes Q.message self.old) }
+        ensures asked { (asked : C.Asked) (request : AnyMessage) (block : List ℕ)
+            (events : List AnyEvent) → IsAsked (C.protocol asked) (C.stands asked) C.phase
+            Q.message request block events self.old
+            → OnOk result (IsAsked (C.protocol asked) (C.stands asked) C.phase Q.message request
+            block (events ++ outs (due_bytes Q.message self.old)) self.new) }
+        ensures once { OnOk result (is_due self.new.turn.stage ≡ false) }
+        ensures same { OnErr result (self.new ≡ self.old) }
+        ensures cause { HasCause L.faults L.wants L.is_sure out.old out.new result }
+    {
+        if !self.is_due() {
+            return Ok(());
+        }
+        self.turn.send(&self.request, out)?;
+        self.turn.sent();
+        Ok(())
+    }
+
+    /// Takes bytes that came, in any pieces, and answers how many. It takes all of them while it
+    /// waits, and none behind a verdict, or behind a whole reply where bytes are due: those stay
+    /// with the caller.
+    pub fn feed(&mut self, bytes: &[u8]) -> usize
+        requires begun { IsBegun C.protocol C.stands C.phase Q.message self.old }
+        ensures begun { IsBegun C.protocol C.stands C.phase Q.message self.new }
+        ensures most { result ≤ length bytes.now }
+        ensures all { is_hearing self.new.turn.stage ≡ true → result ≡ length bytes.now }
+        ensures none { is_hearing self.old.turn.stage ≡ false → result ≡ 0 }
+        ensures asked { (asked : C.Asked) (request : AnyMessage) (block : List ℕ)
+            (events : List AnyEvent) → IsAsked (C.protocol asked) (C.stands asked) C.phase
+            Q.message request block events self.old
+            → IsAsked (C.protocol asked) (C.stands asked) C.phase Q.message request block
+            (events ++ ins (take result bytes.now)) self.new }
+    {
+        if !self.is_waiting() {
+            return 0;
+        }
+        self.turn
+            .feed(&mut self.check, &mut self.places, &mut self.frame, bytes)
+    }
+
+    /// The other end closed: where bytes were to come, the question is rejected for that.
+    pub fn close(&mut self)
+        requires begun { IsBegun C.protocol C.stands C.phase Q.message self.old }
+        ensures begun { IsBegun C.protocol C.stands C.phase Q.message self.new }
+        ensures closed { is_hearing self.new.turn.stage ≡ false }
+        ensures same { is_hearing self.old.turn.stage ≡ false → self.new.turn ≡ self.old.turn }
+        ensures asked { (asked : C.Asked) (request : AnyMessage) (block : List ℕ)
+            (events : List AnyEvent) → IsAsked (C.protocol asked) (C.stands asked) C.phase
+            Q.message request block events self.old
+            → IsAsked (C.protocol asked) (C.stands asked) C.phase Q.message request block
+            (events ++ end_heard self.old.turn.stage) self.new }
+    {
+        if self.is_waiting() {
+            self.turn.close(&mut self.frame);
+        }
+    }
+
+    /// What came of the question, once all is known: what is said, or the first fault of the
+    /// replies.
+    pub fn verdict(&self) -> Option<Result<Said, AskStop>>
+        ensures { result ≡ verdict_of self.now.turn.stage }
+    {
+        self.turn.verdict()
+    }
+
+    /// The pairs that are said, rising; none where there is no verdict, or another one.
+    pub fn pairs(&self) -> &[Entry]
+        ensures { result.now ≡ pairs_of self.now.turn.stage self.now.places.items }
+    {
+        match self.turn.verdict() {
+            Some(Ok(Said::Pairs(found))) if found <= self.places.len() => &self.places[..found],
+            Some(Ok(Said::Pairs(_))) => &self.places,
+            _ => &[],
+        }
+    }
+}

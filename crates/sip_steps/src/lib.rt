@@ -1,0 +1,30 @@
+//! Both ends of a talk for whoever has a loop of their own: bytes that came are handed over in any
+//! pieces, bytes that are due are taken, and no call waits.
+//!
+//! [`Asking`] asks one question: what is due goes out by [`due`](Asking::due), what comes goes in
+//! by [`feed`](Asking::feed), and [`verdict`](Asking::verdict) says what came of it. [`Serving`]
+//! is the helper's end of a talk.
+//!
+//! # What is proved
+//!
+//! - Whatever the pieces, the bytes that `Asking` gave out and took, in their order, are a talk as
+//!   whoever asks over a link has it, and the verdict is the answer of that talk. While it waits no
+//!   answer is possible by the bytes so far, and it owes no byte ([`laws`]).
+//! - The bytes that `Serving` took and sent are turns of its helper's rules, and its status says
+//!   how the talk ended, as of a talk on a link.
+//! - Of bytes behind the end of a question or of a talk none is taken.
+//!
+//! # The definitions to read
+//!
+//! | file of `specs/` | what it defines |
+//! |---|---|
+//! | `Asked` | what the bytes of a question so far are a talk of |
+//! | `Served` | what the bytes of a helper's talk so far are |
+#![tactic(auto)]
+
+mod asking;
+pub mod laws;
+mod serving;
+
+pub use asking::Asking;
+pub use serving::Serving;
