@@ -57,11 +57,11 @@ pub record Joins (s part : SketchValues) : Type 0 where
   pub first : s.tally.first + part.tally.first ≤ most_weight
   pub second : s.tally.second + part.tally.second ≤ most_weight
 
-passed : (b : Bool) (why : Unlike) (rest : Option Unlike) → cond b (Some why) rest ≡ None → (b ≡ false) × (rest ≡ None)
+pub passed : (b : Bool) (why : Unlike) (rest : Option Unlike) → cond b (Some why) rest ≡ None → (b ≡ false) × (rest ≡ None)
 passed true why rest none = absurd cc
 passed false why rest none = (refl, none)
 
-is_so : (b : Bool) → not b ≡ false → b ≡ true
+pub is_so : (b : Bool) → not b ≡ false → b ≡ true
 is_so true fails = refl
 is_so false fails = absurd cc
 

@@ -1,8 +1,9 @@
 -- Causes of faults, seen from an earlier moment to a later one.
-use Rattle.std.proofs.Common.{ℕ, ◌≤◌}
+use Rattle.std.proofs.Common.{ℕ, ◌≤◌, le_refl}
 use Rattle.sip_ports.specs.Ports.{Rose}
 use Rattle.sip_ports.proofs.FaultLemmas.{Rose-since, Rose-until}
 use Rattle.sip_sketch.specs.Risen.{Counts, HasRisen}
+use Rattle.sip_sketch.specs.inside.Causes.{with_parts, with_sketch}
 use Rattle.sip_sketch.specs.declared.status.SketchPort.TheVariants as ports
 use Rattle.sip_sketch.specs.declared.status.SketchStatus.{SketchStatus}
 use Rattle.sip_sketch.specs.declared.status.SketchStatus.TheVariants as statuses
@@ -14,6 +15,10 @@ pub record AreLater (before now : Counts) : Type 0 where
   pub sketch : before.sketch ≤ now.sketch
   pub parts : before.parts ≤ now.parts
   pub report : before.report ≤ now.report
+
+-- they are no less than themselves
+pub as_late : (c : Counts) → AreLater c c
+as_late c = record { first = le_refl c.first; second = le_refl c.second; sketch = le_refl c.sketch; parts = le_refl c.parts; report = le_refl c.report }
 
 rose : (a b c d : ℕ) → a ≤ b → Rose b c → c ≤ d → Rose a d
 rose a b c d earlier risen later = Rose-until a c d (Rose-since a b c earlier risen) later
@@ -41,3 +46,16 @@ risen_between a b c d (statuses.BadStart records is_sum) p h q = tt
 risen_between a b c d (statuses.Behind at) p h q = tt
 risen_between a b c d (statuses.Unlike number why) p h q = tt
 risen_between a b c d statuses.OutOfMemory p h q = tt
+
+-- so of the files of parts alone, and of that of the sketch
+pub parts_since : (before now : Counts) (a b c : ℕ) (status : SketchStatus) → a ≤ b → HasRisen (with_parts before b) (with_parts now c) status → HasRisen (with_parts before a) (with_parts now c) status
+parts_since before now a b c status le h =
+    risen_between (with_parts before a) (with_parts before b) (with_parts now c) (with_parts now c) status
+    record { first = le_refl before.first; second = le_refl before.second; sketch = le_refl before.sketch; parts = le; report = le_refl before.report }
+    h (as_late (with_parts now c))
+
+pub sketch_since : (before now : Counts) (a b c : ℕ) (status : SketchStatus) → a ≤ b → HasRisen (with_sketch before b) (with_sketch now c) status → HasRisen (with_sketch before a) (with_sketch now c) status
+sketch_since before now a b c status le h =
+    risen_between (with_sketch before a) (with_sketch before b) (with_sketch now c) (with_sketch now c) status
+    record { first = le_refl before.first; second = le_refl before.second; sketch = le; parts = le_refl before.parts; report = le_refl before.report }
+    h (as_late (with_sketch now c))

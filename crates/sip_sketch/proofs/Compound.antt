@@ -1,6 +1,7 @@
 -- A sketch to which some updates came, and then others.
 use Rattle.std.proofs.Common.{◌≡◌, ℕ, ◌+◌, ◌-◌, ◌%◌, ◌^◌, ◌<◌, ◌≤◌, ◌*◌, ◌≢◌, Bool, true, false, ◌||◌, List, [], ◌∷◌, ◌++◌, length, All, refl, sym, ap, subst, ◌∙◌, arith, append_assoc, append-nil, length-append, pos}
 use Rattle.std.specs.List.{AllZip}
+use Rattle.std.proofs.Math.Bool.{or_assoc}
 use Rattle.std.proofs.Math.Seq.{take-length}
 use Rattle.std.proofs.lemmas.List.{take-append-le}
 use Rattle.sip_vector.specs.Tallies.{joined, tally}
@@ -50,10 +51,6 @@ zip_then R Q S (x ∷ xs) (y ∷ ys) (z ∷ zs) f h k = (f x y z h.0 k.0, zip_th
 or_none : (a : Bool) → (a || false) ≡ a
 or_none true = refl
 or_none false = refl
-
-or_assoc : (a b c : Bool) → ((a || b) || c) ≡ (a || (b || c))
-or_assoc true b c = refl
-or_assoc false b c = refl
 
 joined_none : (t : Tally) → t.fingerprint < 2 ^ 64 → joined t (tally []) ≡ t
 joined_none t small =

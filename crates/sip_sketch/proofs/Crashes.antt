@@ -16,14 +16,15 @@ use Rattle.sip_sketch.specs.declared.status.SketchPort.TheVariants as ports
 use Rattle.sip_sketch.specs.declared.status.SketchStatus.{SketchStatus}
 use Rattle.sip_sketch.specs.declared.status.SketchStatus.TheVariants as statuses
 
-only_one : (x y : Option (List ℕ)) → Contains (x ∷ []) y → y ≡ x
+-- one content alone
+pub only_one : (x y : Option (List ℕ)) → Contains (x ∷ []) y → y ≡ x
 only_one x y h = elim (Contains-push_cases [] x y h) [
   | inl none ↦ absurd (omega (arith, none.1))
   | inr e ↦ sym e
 ]
 
 -- behind a front of a replacement's steps
-front_left : (start : Option (List ℕ)) (talk : List TalkEvent) (file : List ℕ) (k : ℕ) (content : Option (List ℕ))
+pub front_left : (start : Option (List ℕ)) (talk : List TalkEvent) (file : List ℕ) (k : ℕ) (content : Option (List ℕ))
     → Contains (may_hold start (talk ++ take k (steps file))) content → Contains (may_hold start talk) content ⊎ (content ≡ Some file)
 front_left start talk file k content h = elim (cases_lt k (length file + 2)) [
   | inl less ↦
@@ -44,11 +45,11 @@ front_left start talk file k content h = elim (cases_lt k (length file + 2)) [
   ]
 ]
 
--- a front of a front of the steps is a front of them
-front_of : (file : List ℕ) (n m : ℕ) → (k : ℕ) × (take n (take m (steps file)) ≡ take k (steps file))
-front_of file n m = elim (cases_lt m n) [
-  | inl less ↦ (m, take_all n (take m (steps file)) (omega (arith, length-take m (steps file))))
-  | inr le ↦ (n, take-take n m (steps file) le)
+-- a front of a front is a front
+pub front_again : (events : List TalkEvent) (n m : ℕ) → (k : ℕ) × (take n (take m events) ≡ take k events)
+front_again events n m = elim (cases_lt m n) [
+  | inl less ↦ (m, take_all n (take m events) (omega (arith, length-take m events)))
+  | inr le ↦ (n, take-take n m events le)
 ]
 
 -- so the same holds behind a front of a front of them
@@ -56,69 +57,75 @@ pub part_left : (start : Option (List ℕ)) (talk : List TalkEvent) (file : List
     → Contains (may_hold start (talk ++ take n (take m (steps file)))) content
     → Contains (may_hold start talk) content ⊎ (content ≡ Some file)
 part_left start talk file n m content h =
-    let k = front_of file n m in
+    let k = front_again (steps file) n m in
     front_left start talk file k.0 content
     (subst (λ (es : List TalkEvent). Contains (may_hold start (talk ++ es)) content) k.1 h)
 
--- nothing was done, or some of the steps of a first file
-abbrev HasSteps : ℕ → Parts → List SeatKind → Option (List ℕ) → List TalkEvent → Type 0
-HasSteps depth part kinds left events = (events ≡ [])
-    ⊎ ((file : List ℕ) × (m : ℕ) × IsFirstFile depth part kinds left file × (events ≡ take m (steps file)))
+-- ---- what a call did that stores at most one file
 
-none_of : (depth : ℕ) (part : Parts) (kinds : List SeatKind) (left : Option (List ℕ)) (talk events : List TalkEvent)
-    → talk ++ events ≡ talk ++ [] → HasSteps depth part kinds left events
-none_of depth part kinds left talk events same = inl (append_cancel_left talk events [] same)
+-- nothing was done, or some of the steps of such a file
+abbrev pub HasSteps : (List ℕ → Type 0) → List TalkEvent → Type 0
+HasSteps IsOwn events = (events ≡ []) ⊎ ((file : List ℕ) × (m : ℕ) × IsOwn file × (events ≡ take m (steps file)))
 
-events_of : (depth : ℕ) (part : Parts) (kinds : List SeatKind) (left start : Option (List ℕ)) (talk events : List TalkEvent)
-    (status : SketchStatus) → Begins depth part kinds left start (Some talk) (Some (talk ++ events)) status
-    → HasSteps depth part kinds left events
-events_of depth part kinds left start talk events statuses.Wrote h =
-    let d = h.1 in
-    inr (d.file, length (steps d.file), d.first, append_cancel_left talk events (steps d.file) d.talk ∙ sym (take-length (steps d.file)))
-events_of depth part kinds left start talk events statuses.Exists h = none_of depth part kinds left talk events h.2
-events_of depth part kinds left start talk events (statuses.BadSketch number offset) h = absurd h
-events_of depth part kinds left start talk events statuses.BadSeed h = none_of depth part kinds left talk events h.2
-events_of depth part kinds left start talk events statuses.SeedSpent h = none_of depth part kinds left talk events h.2
-events_of depth part kinds left start talk events statuses.Busy h = none_of depth part kinds left talk events h
-events_of depth part kinds left start talk events (statuses.BadStream at why) h = absurd h
-events_of depth part kinds left start talk events (statuses.BadStart records is_sum) h = absurd h
-events_of depth part kinds left start talk events (statuses.Behind at) h = absurd h
-events_of depth part kinds left start talk events (statuses.Unlike number why) h = absurd h
-events_of depth part kinds left start talk events (statuses.ReadFault ports.First) h = absurd h
-events_of depth part kinds left start talk events (statuses.ReadFault ports.Second) h = none_of depth part kinds left talk events h.1
-events_of depth part kinds left start talk events (statuses.ReadFault ports.Sketch) h = none_of depth part kinds left talk events h
-events_of depth part kinds left start talk events (statuses.ReadFault (ports.Part number)) h = absurd h
-events_of depth part kinds left start talk events (statuses.ReadFault ports.Report) h = absurd h
-events_of depth part kinds left start talk events (statuses.WriteFault ports.First) h = absurd h
-events_of depth part kinds left start talk events (statuses.WriteFault ports.Second) h = absurd h
-events_of depth part kinds left start talk events (statuses.WriteFault ports.Sketch) h =
-    let d = h.1 in
-    inr (d.file, d.count, d.first, append_cancel_left talk events (take d.count (steps d.file)) d.talk)
-events_of depth part kinds left start talk events (statuses.WriteFault (ports.Part number)) h = absurd h
-events_of depth part kinds left start talk events (statuses.WriteFault ports.Report) h = absurd h
-events_of depth part kinds left start talk events statuses.OutOfMemory (inl h) = none_of depth part kinds left talk events h
-events_of depth part kinds left start talk events statuses.OutOfMemory (inr h) =
-    let d = h.1 in
-    inr (d.file, d.count, d.first, append_cancel_left talk events (take d.count (steps d.file)) d.talk)
+module _ (IsOwn : List ℕ → Type 0) (talk events : List TalkEvent) where
+  pub no_steps : talk ++ events ≡ talk ++ [] → HasSteps IsOwn events
+  no_steps same = inl (append_cancel_left talk events [] same)
 
-pub crash_leaves : (depth : ℕ) (part : Parts) (kinds : List SeatKind) (left start : Option (List ℕ)) (talk events : List TalkEvent)
-    (status : SketchStatus) (n : ℕ) (content : Option (List ℕ))
-    → Begins depth part kinds left start (Some talk) (Some (talk ++ events)) status
-    → Contains (may_hold start (talk ++ take n events)) content
-    → Contains (may_hold start talk) content ⊎ IsNew depth part kinds left content
-crash_leaves depth part kinds left start talk events status n content began held =
-    elim (events_of depth part kinds left start talk events status began) [
-      | inl none ↦
-          let empty : take n events ≡ events = take_all n events (omega (arith, ap length none)) in
-          let same : talk ++ take n events ≡ talk = ap (λ (es : List TalkEvent). talk ++ es) (empty ∙ none) ∙ append-nil talk in
-          inl (subst (λ (es : List TalkEvent). Contains (may_hold start es) content) same held)
-      | inr some ↦
-          let cut = subst (λ (es : List TalkEvent). Contains (may_hold start (talk ++ take n es)) content) some.3 held in
-          elim (part_left start talk some.0 n some.1 content cut) [
-            | inl before ↦ inl before
-            | inr is ↦ inr (some.0, some.2, is)
-          ]
-    ]
+  pub all_steps : (file : List ℕ) → IsOwn file → talk ++ events ≡ talk ++ steps file → HasSteps IsOwn events
+  all_steps file own same =
+      inr (file, length (steps file), own, append_cancel_left talk events (steps file) same ∙ sym (take-length (steps file)))
+
+  pub some_steps : (file : List ℕ) (m : ℕ) → IsOwn file → talk ++ events ≡ talk ++ take m (steps file) → HasSteps IsOwn events
+  some_steps file m own same = inr (file, m, own, append_cancel_left talk events (take m (steps file)) same)
+
+  -- so a crash leaves what was there, or such a file
+  pub steps_leave : (start : Option (List ℕ)) (n : ℕ) (content : Option (List ℕ)) → HasSteps IsOwn events
+      → Contains (may_hold start (talk ++ take n events)) content
+      → Contains (may_hold start talk) content ⊎ ((file : List ℕ) × IsOwn file × (content ≡ Some file))
+  steps_leave start n content (inl none) held =
+      let empty : take n events ≡ events = take_all n events (omega (arith, ap length none)) in
+      let same : talk ++ take n events ≡ talk = ap (λ (es : List TalkEvent). talk ++ es) (empty ∙ none) ∙ append-nil talk in
+      inl (subst (λ (es : List TalkEvent). Contains (may_hold start es) content) same held)
+  steps_leave start n content (inr (file, m, own, is)) held =
+      let cut = subst (λ (es : List TalkEvent). Contains (may_hold start (talk ++ take n es)) content) is held in
+      elim (part_left start talk file n m content cut) [
+        | inl before ↦ inl before
+        | inr new ↦ inr (file, own, new)
+      ]
+
+-- ---- while a sketch is begun
+
+module _ (depth : ℕ) (part : Parts) (kinds : List SeatKind) (left start : Option (List ℕ)) (talk events : List TalkEvent) where
+  abbrev IsFirst : List ℕ → Type 0
+  IsFirst = IsFirstFile depth part kinds left
+
+  begun_steps : (status : SketchStatus) → Begins depth part kinds left start (Some talk) (Some (talk ++ events)) status → HasSteps IsFirst events
+  begun_steps statuses.Wrote h = all_steps IsFirst talk events h.1.file h.1.first h.1.talk
+  begun_steps statuses.Exists h = no_steps IsFirst talk events h.2
+  begun_steps (statuses.BadSketch number offset) h = absurd h
+  begun_steps statuses.BadSeed h = no_steps IsFirst talk events h.2
+  begun_steps statuses.SeedSpent h = no_steps IsFirst talk events h.2
+  begun_steps statuses.Busy h = no_steps IsFirst talk events h
+  begun_steps (statuses.BadStream at why) h = absurd h
+  begun_steps (statuses.BadStart records is_sum) h = absurd h
+  begun_steps (statuses.Behind at) h = absurd h
+  begun_steps (statuses.Unlike number why) h = absurd h
+  begun_steps (statuses.ReadFault ports.First) h = absurd h
+  begun_steps (statuses.ReadFault ports.Second) h = no_steps IsFirst talk events h.1
+  begun_steps (statuses.ReadFault ports.Sketch) h = no_steps IsFirst talk events h
+  begun_steps (statuses.ReadFault (ports.Part number)) h = absurd h
+  begun_steps (statuses.ReadFault ports.Report) h = absurd h
+  begun_steps (statuses.WriteFault ports.First) h = absurd h
+  begun_steps (statuses.WriteFault ports.Second) h = absurd h
+  begun_steps (statuses.WriteFault ports.Sketch) h = some_steps IsFirst talk events h.1.file h.1.count h.1.first h.1.talk
+  begun_steps (statuses.WriteFault (ports.Part number)) h = absurd h
+  begun_steps (statuses.WriteFault ports.Report) h = absurd h
+  begun_steps statuses.OutOfMemory (inl h) = no_steps IsFirst talk events h
+  begun_steps statuses.OutOfMemory (inr h) = some_steps IsFirst talk events h.1.file h.1.count h.1.first h.1.talk
+
+  pub crash_leaves : (status : SketchStatus) (n : ℕ) (content : Option (List ℕ)) → Begins depth part kinds left start (Some talk) (Some (talk ++ events)) status
+      → Contains (may_hold start (talk ++ take n events)) content → Contains (may_hold start talk) content ⊎ IsNew depth part kinds left content
+  crash_leaves status n content began held = steps_leave IsFirst talk events start n content (begun_steps status began) held
 
 -- behind `Wrote` there is the file of the call alone
 pub begin_keeps : (depth : ℕ) (part : Parts) (kinds : List SeatKind) (left start : Option (List ℕ)) (talk now : List TalkEvent)

@@ -2,6 +2,7 @@
 use Rattle.std.proofs.Common.{◌≡◌, ℕ, ◌+◌, ◌-◌, ◌*◌, ◌^◌, ◌<◌, ◌≤◌, Bool, true, false, ◌||◌, ℤ, pos, ◌+ℤ◌, nat_abs, List, refl, sym, ap, subst, ◌∙◌, arith}
 use Rattle.std.specs.Prelude.{IsTrue, ◌-ℤ◌}
 use Rattle.std.specs.Int.{from_bool}
+use Rattle.std.proofs.Math.Bool.{or_assoc}
 use Rattle.std.proofs.lemmas.Int.{ints}
 use Rattle.sip_field.specs.Moduli.{m61_modulus}
 use Rattle.sip_vector.specs.Streams.{most_weight, of_side, weight}
@@ -111,10 +112,6 @@ heavy_field t Second used = other_field t.first t.second t.negatives.first t.neg
 -- a second number is a value of its field
 abbrev pub IsTold : Tally → SeatKind → Bool → ℕ → Type 0
 IsTold t kind used x = IsValue (second_of t (code_of kind) (from_bool used)) x
-
-or_assoc : (a b c : Bool) → ((a || b) || c) ≡ (a || (b || c))
-or_assoc true b c = refl
-or_assoc false b c = refl
 
 joined_weight : (t u : Tally) (side : Side) → weight_told (joined t u) side ≡ weight_told t side + weight_told u side
 joined_weight t u First = refl

@@ -23,6 +23,9 @@ pub mod Grown
 pub mod Added
 pub mod Alike
 pub mod Summing
+pub mod Cleared
+pub mod Placing
+pub mod Unread
 pub mod Causes
 pub mod Crashes
 pub mod Founded
@@ -35,3 +38,6 @@ pub mod Rounds
 pub mod Rises
 pub mod Watched
 pub mod WatchedCrashes
+pub mod Merged
+pub mod MergedCrashes
+pub mod Shapes

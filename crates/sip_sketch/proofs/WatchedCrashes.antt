@@ -1,12 +1,11 @@
 -- What a crash leaves while a stream is watched.
-use Rattle.std.proofs.Common.{◌≡◌, ◌⊎◌, ℕ, zero, suc, ◌+◌, ◌-◌, List, [], ◌∷◌, ◌++◌, length, take, Some, inl, inr, refl, sym, ap, subst, ◌∙◌, arith, append-nil, append_assoc, take_all, take-take}
+use Rattle.std.proofs.Common.{◌≡◌, ◌⊎◌, ℕ, zero, suc, ◌+◌, ◌-◌, List, [], ◌∷◌, ◌++◌, length, take, Some, inl, inr, refl, sym, ap, subst, ◌∙◌, arith, append-nil, append_assoc}
 use Rattle.std.specs.Prelude.{Contains, flat_map}
 use Rattle.std.specs.List.{AllZip}
 use Rattle.std.specs.declared.option.Option.{Option}
 use Rattle.std.proofs.Math.Seq.{take-append-add}
 use Rattle.std.proofs.lemmas.Bool.{cases_lt}
-use Rattle.std.proofs.lemmas.List.{append_cancel_left, length-take, take-append-le}
-use Rattle.std.proofs.lemmas.List.Elements.{Contains-push_cases}
+use Rattle.std.proofs.lemmas.List.{append_cancel_left, take-append-le}
 use Rattle.sip_ports.specs.Desk.{may_hold, steps}
 use Rattle.sip_ports.specs.Ports.{GoesOn}
 use Rattle.sip_ports.specs.declared.port.TalkEvent.{TalkEvent}
@@ -17,35 +16,8 @@ use Rattle.sip_sketch.specs.Watching.{IsCut, IsFileAt, IsOneOf, IsOpened, IsOwnF
 use Rattle.sip_sketch.specs.declared.status.SketchPort.TheVariants as ports
 use Rattle.sip_sketch.specs.declared.status.SketchStatus.{SketchStatus}
 use Rattle.sip_sketch.specs.declared.status.SketchStatus.TheVariants as statuses
-use Rattle.sip_ports.proofs.DeskLemmas.{length-steps, may_hold-before, may_hold-kept, may_hold-renamed}
-
-only_one : (x y : Option (List ℕ)) → Contains (x ∷ []) y → y ≡ x
-only_one x y h = elim (Contains-push_cases [] x y h) [
-  | inl none ↦ absurd (omega (arith, none.1))
-  | inr e ↦ sym e
-]
-
--- behind a front of a replacement's steps
-front_left : (start : Option (List ℕ)) (talk : List TalkEvent) (file : List ℕ) (k : ℕ) (content : Option (List ℕ))
-    → Contains (may_hold start (talk ++ take k (steps file))) content → Contains (may_hold start talk) content ⊎ (content ≡ Some file)
-front_left start talk file k content h = elim (cases_lt k (length file + 2)) [
-  | inl less ↦
-      inl (subst (λ (l : List (Option (List ℕ))). Contains l content) (may_hold-before start talk file k less) h)
-  | inr more ↦ elim (cases_lt (length file + 2) k) [
-    | inl all ↦
-        let whole : take k (steps file) ≡ steps file = take_all k (steps file) (omega (arith, length-steps file)) in
-        let kept : may_hold start (talk ++ take k (steps file)) ≡ Some file ∷ [] =
-        ap (λ (es : List TalkEvent). may_hold start (talk ++ es)) whole ∙ may_hold-kept start talk file in
-        inr (only_one (Some file) content (subst (λ (l : List (Option (List ℕ))). Contains l content) kept h))
-    | inr few ↦
-        let e : k ≡ length file + 2 = omega arith in
-        elim (Contains-push_cases (may_hold start talk) (Some file) content
-        (subst (λ (l : List (Option (List ℕ))). Contains l content) (may_hold-renamed start talk file k e) h)) [
-          | inl before ↦ inl before
-          | inr is ↦ inr (sym is)
-        ]
-  ]
-]
+use Rattle.sip_ports.proofs.DeskLemmas.{may_hold-kept}
+use Rattle.sip_sketch.proofs.Crashes.{front_again, front_left, only_one}
 
 none_taken : (n : ℕ) → ◌≡◌ {A = List TalkEvent} (take n []) []
 none_taken zero = refl
@@ -78,13 +50,6 @@ fronts_left R start talk (mark ∷ marks) (file ∷ files) n content (one, each)
         | inl before ↦ inl before
         | inr is ↦ inr (mark, file, (0, omega arith, refl), one, is)
       ]
-]
-
--- a front of a front is a front
-front_again : (events : List TalkEvent) (n m : ℕ) → (k : ℕ) × (take n (take m events) ≡ take k events)
-front_again events n m = elim (cases_lt m n) [
-  | inl less ↦ (m, take_all n (take m events) (omega (arith, length-take m events)))
-  | inr le ↦ (n, take-take n m events le)
 ]
 
 module _ (form : Form) (at every : Option ℕ) (start left left' : Option (List ℕ)) (talk events : List TalkEvent) (n : ℕ) (content : Option (List ℕ))

@@ -8,7 +8,7 @@ use Rattle.sip_vector.specs.Streams.{most_weight}
 use Rattle.sip_vector.specs.declared.tally.Tally.{Tally}
 use Rattle.sip_vector.specs.declared.update.Side.TheVariants.{First, Second}
 use Rattle.sip_sketch.specs.declared.cursor.Size.{Size}
-use Rattle.sip_sketch.specs.declared.cursor.Size.TheVariants.{Byte}
+use Rattle.sip_sketch.specs.declared.cursor.Size.TheVariants.{Byte, Long}
 use Rattle.sip_sketch.specs.declared.kind.SeatKind.{SeatKind}
 use Rattle.sip_sketch.specs.declared.kind.SeatKind.TheVariants.{Entries, Sums, Products, Heavy}
 use Rattle.sip_sketch.specs.Fields.{AreValues, Fields, IsValue, width_of}
@@ -157,3 +157,9 @@ sketch_from s head fits = record {
 -- there are 1 to 64 seats
 pub few_seats : (s : SketchValues) → IsSketch s → (1 ≤ length s.seats) × (length s.seats ≤ most_seats)
 few_seats s is = ranged_from Byte 1 most_seats (length s.seats) (head_from s is).seats
+
+-- neither side is too heavy
+pub light : (s : SketchValues) → IsSketch s → (s.tally.first ≤ most_weight) × (s.tally.second ≤ most_weight)
+light s is =
+    let head = head_from s is in
+    ((ranged_from Long 0 most_weight s.tally.first head.first).1, (ranged_from Long 0 most_weight s.tally.second head.second).1)

@@ -5,6 +5,7 @@ pub mod Files
 pub mod Joining
 pub mod Loaded
 pub mod MemoryFiles
+pub mod Merging
 pub mod Reading
 pub mod Risen
 pub mod SeatLines

@@ -6,6 +6,7 @@ pub mod Founding
 pub mod Heads
 pub mod Keeping
 pub mod Loading
+pub mod Merging
 pub mod Pacing
 pub mod Raising
 pub mod Spelling

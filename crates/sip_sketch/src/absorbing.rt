@@ -1,9 +1,11 @@
 //! Adds the next part of a stream to a sketch.
 
-ghost use Rattle.std.specs.Prelude.{◌≡◌, ◌++◌, List, None, Some, IfOk, IfErr, OnOk, OnErr};
+ghost use Rattle.std.specs.Prelude.{◌≡◌, ◌≤◌, ◌==◌, ◌&&◌, ◌++◌, List, None, Some, IfOk, IfErr, OnOk};
+ghost use Rattle.std.specs.Prelude.{OnErr};
 ghost use Rattle.std.specs.Prelude.{bytes_eq};
 ghost use Rattle.std.specs.Cmp.Lexicographic.{pointwise};
 ghost use Rattle.std.specs.List.{AllZip};
+ghost use Rattle.sip_vector.specs.Streams.{most_weight};
 ghost use Rattle.sip_vector.specs.declared.update.Update.{Update as AnyUpdate};
 ghost use Rattle.sip_sketch.specs.Joining.{added, added_seats, any_used, same_seat, same_shape};
 ghost use Rattle.sip_sketch.specs.Joining.{is_whole, unlike};
@@ -13,7 +15,7 @@ ghost use Rattle.sip_sketch.specs.inside.Adding.{AddUp};
 use crate::reading::MOST_WEIGHT;
 use crate::{Parts, Sketch, SketchSeat, Unlike};
 use sip_field::{Field, M61, Seat};
-use sip_vector::{CAP, Side};
+use sip_vector::{CAP, Depth, Side, Tally};
 
 // Whether two seats have the same challenges.
 fn same_block(one: &Seat<M61, CAP>, other: &Seat<M61, CAP>) -> bool
@@ -52,22 +54,22 @@ fn same_seats(ones: &[SketchSeat], others: &[SketchSeat]) -> bool
     true
 }
 
-// Whether a question has used one of them.
-fn any_used(seats: &[SketchSeat]) -> bool
+/// Whether a question has used one of them.
+pub(crate) fn any_used(seats: &[SketchSeat]) -> bool
     ensures { result ≡ any_used seats.now }
 {
     seats.iter().any(|seat| seat.is_used())
 }
 
-// Whether all parts are in.
-fn is_whole(parts: &Parts) -> bool
+/// Whether all parts are in.
+pub(crate) fn is_whole(parts: &Parts) -> bool
     ensures { result ≡ is_whole parts.now }
 {
     parts.first == 1 && parts.last == parts.count
 }
 
-// Adds up the numbers of seats, each with the one at its place.
-fn add_seats(seats: &mut [SketchSeat], others: &[SketchSeat])
+/// Adds up the numbers of seats, each with the one at its place.
+pub(crate) fn add_seats(seats: &mut [SketchSeat], others: &[SketchSeat])
     requires { AllZip AddUp seats.old others.now }
     ensures { seats.new ≡ added_seats seats.old others.now }
 {
@@ -76,39 +78,67 @@ fn add_seats(seats: &mut [SketchSeat], others: &[SketchSeat])
     }
 }
 
+// Whether the depth, the number of parts and the seats are the same.
+fn has_shape(depth: Depth, parts: &Parts, seats: &[SketchSeat], part: &Sketch) -> bool
+    ensures { result ≡ ((depth == part.now.depth) && ((parts.now.count == part.now.parts.count)
+        && pointwise same_seat seats.now part.now.seats)) }
+{
+    depth.get() == part.depth.get()
+        && parts.count == part.parts.count
+        && same_seats(seats, &part.seats)
+}
+
+/// Why a part is not added to what these are told of and kept of; `None` where it can be.
+pub(crate) fn unlike(
+    depth: Depth,
+    parts: &Parts,
+    tally: &Tally,
+    seats: &[SketchSeat],
+    part: &Sketch,
+) -> Option<Unlike>
+    requires first { tally.now.first ≤ most_weight }
+    requires second { tally.now.second ≤ most_weight }
+    ensures { result ≡ unlike (record {
+      depth = depth;
+      parts = parts.now;
+      tally = tally.now;
+      seats = seats.now;
+    }) part.now }
+{
+    if !has_shape(depth, parts, seats, part) {
+        return Some(Unlike::Shape);
+    }
+    if is_whole(&part.parts) {
+        return Some(Unlike::Whole);
+    }
+    if any_used(&part.seats) {
+        return Some(Unlike::UsedSeat);
+    }
+    if u64::from(part.parts.first) != u64::from(parts.last) + 1 {
+        return Some(Unlike::NotNext);
+    }
+    if tally.first + part.tally.first > MOST_WEIGHT {
+        return Some(Unlike::Heavy(Side::First));
+    }
+    if tally.second + part.tally.second > MOST_WEIGHT {
+        return Some(Unlike::Heavy(Side::Second));
+    }
+    None
+}
+
 impl Sketch {
-    // Whether the depth, the number of parts and the seats are the same.
-    fn has_shape_of(&self, part: &Sketch) -> bool
+    /// Whether the depth, the number of parts and the seats are the same.
+    pub(crate) fn has_shape_of(&self, part: &Sketch) -> bool
         ensures { result ≡ same_shape self.now part.now }
     {
-        self.depth.get() == part.depth.get()
-            && self.parts.count == part.parts.count
-            && same_seats(&self.seats, &part.seats)
+        has_shape(self.depth, &self.parts, &self.seats, part)
     }
 
     // Why a part is not added; `None` where it can be.
     fn unlike(&self, part: &Sketch) -> Option<Unlike>
         ensures { result ≡ unlike self.now part.now }
     {
-        if !self.has_shape_of(part) {
-            return Some(Unlike::Shape);
-        }
-        if is_whole(&part.parts) {
-            return Some(Unlike::Whole);
-        }
-        if any_used(&part.seats) {
-            return Some(Unlike::UsedSeat);
-        }
-        if u64::from(part.parts.first) != u64::from(self.parts.last) + 1 {
-            return Some(Unlike::NotNext);
-        }
-        if self.tally.first + part.tally.first > MOST_WEIGHT {
-            return Some(Unlike::Heavy(Side::First));
-        }
-        if self.tally.second + part.tally.second > MOST_WEIGHT {
-            return Some(Unlike::Heavy(Side::Second));
-        }
-        None
+        unlike(self.depth, &self.parts, &self.tally, &self.seats, part)
     }
 
     /// Adds the next part of the stream, which another collector kept at the same challenges: its

@@ -1,12 +1,14 @@
 //! Laws of the file, and of crashes while it is stored. These functions do nothing: each contract is
 //! a fact that holds.
 
-ghost use Rattle.std.specs.Prelude.{◌≡◌, ◌⊎◌, ◌<◌, ◌++◌, ℕ, List, [], ◌∷◌, Ok, All, Some, take};
-ghost use Rattle.std.specs.Prelude.{Contains};
+ghost use Rattle.std.specs.Prelude.{◌≡◌, ◌⊎◌, ◌<◌, ◌++◌, ℕ, List, [], ◌∷◌, Ok, All, None, Some};
+ghost use Rattle.std.specs.Prelude.{Contains, take};
 ghost use Rattle.std.specs.declared.option.Option.{Option};
 ghost use Rattle.sip_ports.specs.Desk.{may_hold};
 ghost use Rattle.sip_ports.specs.declared.port.TalkEvent.{TalkEvent};
 ghost use Rattle.sip_sketch.specs.Beginnings.{Begins, IsFirstFile, IsNew};
+ghost use Rattle.sip_sketch.specs.Joining.{same_shape};
+ghost use Rattle.sip_sketch.specs.Merging.{IsNewFile, Merges, Sums};
 ghost use Rattle.sip_sketch.specs.Watching.{IsOwnFile, Watches};
 ghost use Rattle.sip_stream.specs.declared.form.Form.{Form};
 ghost use Rattle.sip_sketch.specs.Fields.{AreValues, Fields, read, spelling};
@@ -57,4 +59,25 @@ pub fn a_watch_leaves_whole_files()
         → Contains (may_hold start (talk ++ take n events)) content → (status : SketchStatus)
         → Watches form at every start left (Some talk) more (Some (talk ++ events)) status
         → Contains (may_hold start talk) content ⊎ IsOwnFile every start (Some talk) content }
+{}
+
+/// Whenever a crash comes while parts are added up, the file has what it might have before, or it is
+/// the file of the sum of all parts, whole, of which no used seat is unused.
+pub fn a_merge_leaves_whole_files()
+    ensures { (files : Option (ℕ → Option (List ℕ))) (count : ℕ) (start : Option (List ℕ))
+        (talk events : List TalkEvent) (status : SketchStatus) (n : ℕ)
+        (content : Option (List ℕ))
+        → Merges files count start (Some talk) (Some (talk ++ events)) status
+        → Contains (may_hold start (talk ++ take n events)) content
+        → Contains (may_hold start talk) content
+        ⊎ IsNewFile files count start (Some talk) content }
+{}
+
+/// That a part has the shape of the parts before it says that it has the shape of the sketch in
+/// whose place they are added up, where there is one, and else of the first part.
+pub fn a_sum_has_one_shape()
+    ensures sketch { (sketch : SketchValues) (parts : List SketchValues) (sum part : SketchValues)
+        → Sums (Some sketch) parts sum → same_shape sum part ≡ same_shape sketch part }
+    ensures first { (first : SketchValues) (parts : List SketchValues) (sum part : SketchValues)
+        → Sums None (first ∷ parts) sum → same_shape sum part ≡ same_shape first part }
 {}

@@ -28,6 +28,11 @@
 //!   file that it stores is that of a sketch to which the first so many of the records came, with
 //!   the same seats, as many of them used. Whenever a crash comes, the file is one of these or as
 //!   it was ([`laws::a_watch_leaves_whole_files`]).
+//! - [`merge`] adds up the parts of a stream in the sketch of a desk, each loaded and tested before
+//!   the next one; its status says which part was refused and why. A seat is used exactly where the
+//!   sketch had it used, and has then the same numbers; where the parts stand for streams the sum
+//!   stands for these one behind the other. Whenever a crash comes, the file is that of the sum or
+//!   as it was ([`laws::a_merge_leaves_whole_files`]).
 //! - [`Sketch::write`] writes that file, and takes memory only where there is less room than the
 //!   file has bytes ([`Sketch::size`]).
 //!
@@ -45,6 +50,7 @@
 //! | `Showing`, `SeatLines` | what each ending of [`seats`] says of its file and its report; the lines |
 //! | `Loaded` | when a file is no sketch, and from which byte on |
 //! | `Watching` | what is read of a stream that is watched, and when the sketch is stored |
+//! | `Merging` | what parts add up to in the place of a sketch, why one is refused, what is stored |
 //! | `Risen` | which count of faults rose where a call over files answers that a port failed |
 //! | `Files`, `MemoryFiles` | what is loaded of files that are read whole; what those in memory have |
 //! | `Examples` | what the examples work out |
@@ -66,6 +72,7 @@ mod kind;
 pub mod laws;
 mod loading;
 mod memory_files;
+mod merging;
 mod pace;
 mod parts;
 mod passing;
@@ -75,6 +82,7 @@ mod showing;
 mod sketch;
 mod status;
 mod storing;
+mod sum;
 mod unlike;
 mod updating;
 mod watching;
@@ -86,6 +94,7 @@ pub use files::SketchFiles;
 pub use founding::begin;
 pub use kind::SeatKind;
 pub use memory_files::MemoryFiles;
+pub use merging::{MOST_PARTS, merge};
 pub use parts::Parts;
 pub use seat::SketchSeat;
 pub use showing::seats;

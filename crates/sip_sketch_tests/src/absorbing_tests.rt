@@ -8,7 +8,7 @@ use std::process::Abort;
 
 // Parts 1 and 2 of 2, with seats for entries and for sums of side 0. The first has two records of
 // three that add up to (3, 0, 5, 1), and the other the third.
-const TWO_PARTS: [u8; 152] = [
+pub(crate) const TWO_PARTS: [u8; 152] = [
     0x53, 0x49, 0x50, 0x4b, 0x01, 0x02, 0x00, 0x00, 0x00, 0x02, 0x00, 0x00, 0x00, 0x01, 0x00, 0x00,
     0x00, 0x02, 0x00, 0x00, 0x00, 0x00, 0x00, 0x00, 0x00, 0x09, 0x00, 0x00, 0x00, 0x00, 0x00, 0x00,
     0x00, 0x00, 0x00, 0x00, 0x00, 0x00, 0x00, 0x00, 0x00, 0x03, 0x00, 0xb8, 0x26, 0x1a, 0xe7, 0xdb,
@@ -58,7 +58,7 @@ pub(crate) const USED_PART: [u8; 152] = [
     0x30, 0xd3, 0x25, 0xed, 0x1d, 0x9b, 0xc6, 0x7a,
 ];
 
-const USED_SUM: [u8; 152] = [
+pub(crate) const USED_SUM: [u8; 152] = [
     0x53, 0x49, 0x50, 0x4b, 0x01, 0x02, 0x00, 0x00, 0x00, 0x02, 0x00, 0x00, 0x00, 0x01, 0x00, 0x00,
     0x00, 0x02, 0x00, 0x00, 0x00, 0x00, 0x00, 0x00, 0x00, 0x09, 0x00, 0x00, 0x00, 0x00, 0x00, 0x00,
     0x00, 0x00, 0x00, 0x00, 0x00, 0x00, 0x00, 0x00, 0x00, 0x03, 0x00, 0xb8, 0x26, 0x1a, 0xe7, 0xdb,
@@ -72,7 +72,7 @@ const USED_SUM: [u8; 152] = [
 ];
 
 // The other part of two with its first seat used.
-const USED_OTHER: [u8; 152] = [
+pub(crate) const USED_OTHER: [u8; 152] = [
     0x53, 0x49, 0x50, 0x4b, 0x01, 0x02, 0x00, 0x00, 0x00, 0x02, 0x00, 0x00, 0x00, 0x02, 0x00, 0x00,
     0x00, 0x02, 0x00, 0x00, 0x00, 0x00, 0x00, 0x00, 0x00, 0x01, 0x00, 0x00, 0x00, 0x00, 0x00, 0x00,
     0x00, 0x00, 0x00, 0x00, 0x00, 0x00, 0x00, 0x00, 0x00, 0x01, 0x00, 0x1d, 0x0b, 0x14, 0xe4, 0xdb,
@@ -85,7 +85,7 @@ const USED_OTHER: [u8; 152] = [
     0x58, 0x83, 0xe0, 0x92, 0x06, 0x2a, 0xc1, 0x6f,
 ];
 
-const KINDS: [SeatKind; 6] = [
+pub(crate) const KINDS: [SeatKind; 6] = [
     SeatKind::Entries,
     SeatKind::Sums(Side::First),
     SeatKind::Sums(Side::Second),
@@ -95,7 +95,7 @@ const KINDS: [SeatKind; 6] = [
 ];
 
 // A record of a side.
-fn record(side: Side, item: u64, delta: i64) -> Update {
+pub(crate) fn record(side: Side, item: u64, delta: i64) -> Update {
     Update { side, item, delta }
 }
 
@@ -110,7 +110,7 @@ fn six_records() -> [Update; 6] {
     ]
 }
 
-fn three_records() -> [Update; 3] {
+pub(crate) fn three_records() -> [Update; 3] {
     [
         record(Side::First, 0, 3),
         record(Side::First, 2, 5),
@@ -120,7 +120,7 @@ fn three_records() -> [Update; 3] {
 
 // A part, and what a collector kept of it.
 #[derive(Clone, Copy)]
-struct Part<'a> {
+pub(crate) struct Part<'a> {
     seed: u8,
     depth: u8,
     part: u32,
@@ -130,7 +130,7 @@ struct Part<'a> {
 }
 
 // Its sketch.
-fn kept(alloc: Global, p: &Part<'_>) -> Option<Sketch> {
+pub(crate) fn kept(alloc: Global, p: &Part<'_>) -> Option<Sketch> {
     let depth = Depth::new(p.depth)?;
     if p.part < 1 || p.part > p.parts || p.kinds.is_empty() || p.kinds.len() > 64 {
         return None;
@@ -156,16 +156,26 @@ fn is_sum(alloc: Global, first: Option<Sketch>, other: Option<Sketch>, file: &[u
     sketch.write(&mut bytes).is_ok() && bytes.as_slice() == file
 }
 
-// One of two parts at the challenges of 32 zero bytes.
-fn of_two<'a>(part: u32, kinds: &'a [SeatKind], updates: &'a [Update]) -> Part<'a> {
+// One of so many parts at the challenges of 32 zero bytes.
+pub(crate) fn part_of<'a>(
+    part: u32,
+    parts: u32,
+    kinds: &'a [SeatKind],
+    updates: &'a [Update],
+) -> Part<'a> {
     Part {
         seed: 0,
         depth: 2,
         part,
-        parts: 2,
+        parts,
         kinds,
         updates,
     }
+}
+
+// One of two.
+pub(crate) fn of_two<'a>(part: u32, kinds: &'a [SeatKind], updates: &'a [Update]) -> Part<'a> {
+    part_of(part, 2, kinds, updates)
 }
 
 #[test]

@@ -82,7 +82,12 @@ impl File {
 
 // A desk whose file has these bytes, where the call of this number fails, a replacement behind so
 // many steps.
-fn desk(alloc: Global, file: Option<&[u8]>, fails: u64, stops: usize) -> Result<MemoryDesk, Fail> {
+pub(crate) fn desk(
+    alloc: Global,
+    file: Option<&[u8]>,
+    fails: u64,
+    stops: usize,
+) -> Result<MemoryDesk, Fail> {
     let link = MemoryLink::new(alloc, Vec::new(alloc), 1, vec![in alloc; fails]?);
     let file = match file {
         None => None,
@@ -159,6 +164,20 @@ fn a_sketch_that_is_cut_off_is_missing_or_whole(rt: HostRuntime) -> Result<(), F
     Ok(())
 }
 
+// Whether a file takes its name only once it has all of these bytes, and the link has no part in it.
+pub(crate) fn keeps_only(alloc: Global, talk: &[TalkEvent], file: &[u8]) -> Result<bool, Fail> {
+    let mut beside = Vec::new(alloc);
+    for event in talk {
+        match event {
+            TalkEvent::Fresh => beside.clear(),
+            TalkEvent::Stored(byte) => beside.push(*byte)?,
+            TalkEvent::Renames | TalkEvent::Kept if beside.as_slice() == file => {}
+            _ => return Ok(false),
+        }
+    }
+    Ok(true)
+}
+
 // The file that is made beside the kept one has all bytes before it takes its name.
 #[test]
 fn a_crash_leaves_no_other_file(rt: HostRuntime) -> Result<(), Fail> {
@@ -166,17 +185,8 @@ fn a_crash_leaves_no_other_file(rt: HostRuntime) -> Result<(), Fail> {
     let mut seed = seed(rt.alloc(), 32, 0)?;
     let status = begin_over(rt.alloc(), &mut seed, &mut desk);
     assert!(rt; status == Some(SketchStatus::Wrote), "the status");
-    let mut beside = Vec::new(rt.alloc());
-    for event in desk.talk() {
-        match event {
-            TalkEvent::Fresh => beside.clear(),
-            TalkEvent::Stored(byte) => beside.push(*byte)?,
-            TalkEvent::Renames | TalkEvent::Kept => {
-                assert!(rt; beside.as_slice() == begun().as_slice(), "a whole file");
-            }
-            _ => assert!(rt; false, "no byte of the link"),
-        }
-    }
+    let keeps = keeps_only(rt.alloc(), desk.talk(), &begun())?;
+    assert!(rt; keeps, "a whole file");
     assert!(rt; desk.talk().len() == 155, "all steps");
     assert!(rt;
         desk.talk()[153..] == [TalkEvent::Renames, TalkEvent::Kept],

@@ -13,6 +13,8 @@ mod file_tests;
 #[cfg(test)]
 mod growing_tests;
 #[cfg(test)]
+mod merge_tests;
+#[cfg(test)]
 mod showing_tests;
 #[cfg(test)]
 mod watch_tests;

@@ -11,7 +11,7 @@ use std::alloc::Global;
 use std::process::Abort;
 use std::test::Fail;
 
-const LOG: &[u8] = b"0 0 3\n0 2 5\n0 3 1\n";
+pub(crate) const LOG: &[u8] = b"0 0 3\n0 2 5\n0 3 1\n";
 
 // The number of the first record and of the records between two replacements; the stream; which
 // calls of the desk and of the stream fail; the status; how many events the desk has then, 155 for

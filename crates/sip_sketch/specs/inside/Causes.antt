@@ -13,3 +13,7 @@ with_second c second = counts c.first second c.sketch c.parts c.report
 -- these counts, with this one of the stream
 abbrev pub with_first : Counts → ℕ → Counts
 with_first c first = counts first c.second c.sketch c.parts c.report
+
+-- these counts, with this one of the files of parts
+abbrev pub with_parts : Counts → ℕ → Counts
+with_parts c parts = counts c.first c.second c.sketch parts c.report

@@ -1,19 +1,14 @@
 -- How the call ended.
-use Rattle.std.proofs.Common.{◌≡◌, ◌∙◌, ℕ, ◌+◌, List, length, Some, ap, arith, refl, subst, sym}
+use Rattle.std.proofs.Common.{◌≡◌, ◌∙◌, ℕ, ◌+◌, List, Some, ap, arith, refl, subst, sym}
 use Rattle.std.proofs.lemmas.Grind.{common_steps}
 use Rattle.sip_ports.specs.Desk.{Loads}
 use Rattle.sip_ports.proofs.TalkLemmas.{GoesOn-refl}
 use Rattle.sip_vector.specs.declared.tally.Tally.{Tally}
 use Rattle.sip_sketch.specs.Risen.{HasRisen}
-use Rattle.sip_sketch.specs.Sketches.{SketchValues, spelled_file}
-use Rattle.sip_sketch.specs.Watching.{IsOpened, begins_at}
 use Rattle.sip_sketch.specs.declared.filling.Pause.TheVariants.{Full, Ended, Stopped}
-use Rattle.sip_sketch.specs.declared.status.SketchStatus.{SketchStatus}
 use Rattle.sip_sketch.specs.inside.Causes.{with_first, with_sketch}
-use Rattle.sip_sketch.specs.inside.Following.{status_of}
-use Rattle.sip_sketch.specs.inside.Keeping.{Closes}
 use Rattle.sip_sketch.proofs.Rises.{risen_since, stream_risen}
-use Rattle.sip_sketch.proofs.Watched.{added_to, ended_before, stopped_before, unread}
+use Rattle.sip_sketch.proofs.Watched.{added_to, ended_before, ready, stopped_before, unread}
 use Rattle.sip_sketch.proofs.watching.watch.Goals as goal
 
 pub returns-in-Err-clause-cause : goal.returns-in-Err-clause-cause
@@ -31,23 +26,12 @@ returns-in-Err-read_part-clause-watches g c =
 
 pub returns-in-Full-clause-watches : goal.returns-in-Full-clause-watches
 returns-in-Full-clause-watches g c =
-    let s : SketchValues = c.in-Ok.sketch in
-    let start = g.D.Desk.start c.args.desk.now in
-    let old = g.D.Sink.talk c.args.desk.now in
-    let mid = g.D.Sink.talk c.load_file.new.desk in
-    let left = g.A.Source.left c.args.first.now in
-    let between = g.A.Source.left c.pass_over-passed.new.first in
-    let records : c.tally-records.result.count ≡ s.tally.count = ap (λ (t : Tally). t.count) c.tally-records.ensures in
-    let number : c.begins_at-start.result ≡ begins_at c.args.at s.tally.count = c.begins_at-start.ensures ∙ ap (begins_at c.args.at) records in
-    let opened : IsOpened c.args.form c.args.at c.args.every start left old s = record {
-      is = c.in-Ok.ensures.found.0;
-      loads = subst (λ (l : List ℕ). Loads start old (Some l)) (sym c.deref.ensures.value ∙ c.in-Ok.ensures.found.1) (rw c.in-Ok-Some.field-0-is at c.in-Ok-Some.ensures.found);
-      one = grind (arith, common_steps);
-      begins = omega (arith, number, records);
-    } in
+    let here = ready c.args.form c.args.at c.args.every (g.D.Desk.start c.args.desk.now) (g.A.Source.left c.args.first.now) (g.D.Sink.talk c.args.desk.now) (g.D.Sink.talk c.load_file.new.desk)
+    c.in-Ok.sketch c.tally-records.result c.begins_at-start.result c.in-Ok.ensures.found c.deref.ensures.value (rw c.in-Ok-Some.field-0-is at c.in-Ok-Some.ensures.found) c.load_file.ensures.talk
+    c.tally-records.ensures c.begins_at-start.ensures (grind (arith, common_steps)) (omega arith) in
     let (passed, count, reads) = c.pass_over-passed.ensures.passed in
-    let all : begins_at c.args.at s.tally.count + length passed ≡ s.tally.count = omega (arith, number, records, count, c.pass_over-passed.ensures.full c.in-Full.is) in
-    added_to c.args.form c.args.at c.args.every start left old s mid opened c.load_file.ensures.talk between passed all
+    let records = ap (λ (t : Tally). t.count) c.tally-records.ensures in
+    added_to here (g.A.Source.left c.pass_over-passed.new.first) passed (omega (arith, records, count, c.pass_over-passed.ensures.full c.in-Full.is))
     (λ bytes told. rw (c.depth.ensures, c.in-Full.is) at (reads bytes told))
     (g.A.Source.left c.follow.new.first) (g.D.Sink.talk c.follow.new.desk) c.follow.result c.follow.ensures.adds
 
@@ -58,51 +42,29 @@ returns-in-Full-clause-cause g c = λ before now.
 
 pub returns-in-Ended-clause-watches : goal.returns-in-Ended-clause-watches
 returns-in-Ended-clause-watches g c =
-    let s : SketchValues = c.in-Ok.sketch in
-    let start = g.D.Desk.start c.args.desk.now in
-    let old = g.D.Sink.talk c.args.desk.now in
-    let mid = g.D.Sink.talk c.load_file.new.desk in
-    let left = g.A.Source.left c.args.first.now in
-    let records : c.tally-records.result.count ≡ s.tally.count = ap (λ (t : Tally). t.count) c.tally-records.ensures in
-    let number : c.begins_at-start.result ≡ begins_at c.args.at s.tally.count = c.begins_at-start.ensures ∙ ap (begins_at c.args.at) records in
-    let opened : IsOpened c.args.form c.args.at c.args.every start left old s = record {
-      is = c.in-Ok.ensures.found.0;
-      loads = subst (λ (l : List ℕ). Loads start old (Some l)) (sym c.deref.ensures.value ∙ c.in-Ok.ensures.found.1) (rw c.in-Ok-Some.field-0-is at c.in-Ok-Some.ensures.found);
-      one = grind (arith, common_steps);
-      begins = omega (arith, number, records);
-    } in
+    let here = ready c.args.form c.args.at c.args.every (g.D.Desk.start c.args.desk.now) (g.A.Source.left c.args.first.now) (g.D.Sink.talk c.args.desk.now) (g.D.Sink.talk c.load_file.new.desk)
+    c.in-Ok.sketch c.tally-records.result c.begins_at-start.result c.in-Ok.ensures.found c.deref.ensures.value (rw c.in-Ok-Some.field-0-is at c.in-Ok-Some.ensures.found) c.load_file.ensures.talk
+    c.tally-records.ensures c.begins_at-start.ensures (grind (arith, common_steps)) (omega arith) in
     let (passed, count, reads) = c.pass_over-passed.ensures.passed in
-    let place = c.begins_at-start.result + c.pass_over-passed.result.0 in
+    let records = ap (λ (t : Tally). t.count) c.tally-records.ensures in
     let fewer = c.pass_over-passed.ensures.fewer (λ full. let two : Ended ≡ Full = sym c.in-Ended.is ∙ full in absurd cc) in
-    ended_before c.args.form c.args.at c.args.every start left old s mid opened c.load_file.ensures.talk
-    (g.A.Source.left c.pass_over-passed.new.first) place passed (omega (arith, number, count)) (omega (arith, records, fewer)) mid (GoesOn-refl mid)
-    (λ bytes told. rw (c.depth.ensures, c.in-Ended.is) at (reads bytes told))
+    let mid = g.D.Sink.talk c.load_file.new.desk in
+    ended_before here (g.A.Source.left c.pass_over-passed.new.first) (c.begins_at-start.result + c.pass_over-passed.result.0) passed
+    (omega (arith, count)) (omega (arith, records, fewer)) mid (GoesOn-refl mid) (λ bytes told. rw (c.depth.ensures, c.in-Ended.is) at (reads bytes told))
 
 pub returns-clause-watches : goal.returns-clause-watches
 returns-clause-watches g c =
-    let s : SketchValues = c.in-Ok.sketch in
-    let start = g.D.Desk.start c.args.desk.now in
-    let old = g.D.Sink.talk c.args.desk.now in
-    let mid = g.D.Sink.talk c.load_file.new.desk in
-    let new = g.D.Sink.talk c.close.new.desk in
-    let left = g.A.Source.left c.args.first.now in
-    let fault = c.in-Stopped.fault in
-    let records : c.tally-records.result.count ≡ s.tally.count = ap (λ (t : Tally). t.count) c.tally-records.ensures in
-    let number : c.begins_at-start.result ≡ begins_at c.args.at s.tally.count = c.begins_at-start.ensures ∙ ap (begins_at c.args.at) records in
-    let opened : IsOpened c.args.form c.args.at c.args.every start left old s = record {
-      is = c.in-Ok.ensures.found.0;
-      loads = subst (λ (l : List ℕ). Loads start old (Some l)) (sym c.deref.ensures.value ∙ c.in-Ok.ensures.found.1) (rw c.in-Ok-Some.field-0-is at c.in-Ok-Some.ensures.found);
-      one = grind (arith, common_steps);
-      begins = omega (arith, number, records);
-    } in
+    let here = ready c.args.form c.args.at c.args.every (g.D.Desk.start c.args.desk.now) (g.A.Source.left c.args.first.now) (g.D.Sink.talk c.args.desk.now) (g.D.Sink.talk c.load_file.new.desk)
+    c.in-Ok.sketch c.tally-records.result c.begins_at-start.result c.in-Ok.ensures.found c.deref.ensures.value (rw c.in-Ok-Some.field-0-is at c.in-Ok-Some.ensures.found) c.load_file.ensures.talk
+    c.tally-records.ensures c.begins_at-start.ensures (grind (arith, common_steps)) (omega arith) in
     let (passed, count, reads) = c.pass_over-passed.ensures.passed in
+    let records = ap (λ (t : Tally). t.count) c.tally-records.ensures in
+    let fault = c.in-Stopped.fault in
     let place = c.begins_at-start.result + c.pass_over-passed.result.0 in
     let fewer = c.pass_over-passed.ensures.fewer (λ full. let two : Stopped fault ≡ Full = sym c.in-Stopped.is ∙ full in absurd cc) in
-    let closed : Closes mid new (spelled_file s) (status_of fault place) c.close.result =
-    subst (λ (x : SketchStatus). Closes mid new (spelled_file s) x c.close.result) c.status_of-status.ensures c.close.ensures.talk in
-    stopped_before c.args.form c.args.at c.args.every start left old s mid opened c.load_file.ensures.talk
-    (g.A.Source.left c.pass_over-passed.new.first) place passed (omega (arith, number, count)) (omega (arith, records, fewer)) new fault c.close.result
-    (λ bytes told. rw (c.depth.ensures, c.in-Stopped.is) at (reads bytes told)) closed
+    stopped_before here (g.A.Source.left c.pass_over-passed.new.first) place passed (omega (arith, count)) (omega (arith, records, fewer))
+    (g.D.Sink.talk c.close.new.desk) fault c.close.result (λ bytes told. rw (c.depth.ensures, c.in-Stopped.is) at (reads bytes told))
+    (rw c.status_of-status.ensures at c.close.ensures.talk)
 
 pub returns-clause-cause : goal.returns-clause-cause
 returns-clause-cause g c = λ before now.
