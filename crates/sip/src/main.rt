@@ -1,8 +1,14 @@
 //! `sip`: checks the answer of a helper that keeps a stream for you.
 #![tactic(auto)]
 
+mod named_files;
+mod sketching;
+mod start;
+
 ghost use Rattle.std.specs.Prelude.{◌≡◌, ◌⊎◌, ◌↔◌, ℕ, List, IsTrue, IfSome, IsSome, None};
 ghost use Rattle.sip_verifier.specs.declared.status.Status.{Status as AnyStatus};
+ghost use Rattle.sip_keeping.specs.Endings.{code_of_sketch};
+ghost use Rattle.sip_sketch.specs.declared.status.SketchStatus.{SketchStatus as AnySketchStatus};
 ghost use Rattle.sip_words.specs.declared.command.Command.{Command as AnyCommand};
 ghost use Rattle.sip_words.specs.declared.sparing.PlanFiles.{PlanFiles as AnyFiles};
 ghost use Rattle.sip_advice.specs.Exit.{code_of};
@@ -14,11 +20,14 @@ ghost use Rattle.sip_cli.specs.ToldStream.{stream_form, stream_teller, unread};
 ghost use Rattle.sip_cli.specs.ToldTalk.{IsScript, talk_teller, unsaid};
 ghost use Rattle.sip_words.specs.Words.{IsSpelled, Spells, IsRefusedAt};
 
+use crate::sketching::sketch_ending;
+use crate::start::{stand_ins, words};
 use sip_advice::{
     Ending, Noted, SeedLook, Trouble, Unopened, finish, has_seed, page_of, page_without_file,
     status_without_words, write_page,
 };
 use sip_cli::{Lines, OPENING_FROM, OPENING_TO, ToldLink, ToldSource, obey, panel, play};
+use sip_keeping::sketch_verb;
 use sip_ports::{
     FileLink, FileSink, FileSource, NullSink, Sink, Source, StderrSink, StdoutSink, write_whole,
 };
@@ -29,32 +38,9 @@ use sip_words::{
     Command, FileId, LinkOrder, Opening, PlanFiles, PortPlan, Usage, Words, ports, read_words,
 };
 use std::fs::{self, File};
-use std::io::{Read, Stderr};
+use std::io::{self, Read, Stderr};
 use std::os::unix::fs::{MetadataExt, PermissionsExt};
 use std::process::ExitCode;
-use std::{env, io};
-
-/// Files that stand at the lowest descriptors that were closed at the start, if any of 0 to 2 was.
-/// The system gives the lowest free descriptor, so that no file of the run can become standard
-/// output or standard error; and since these are a folder that is opened to be read, reads and
-/// writes of such a stream fail. Where all three were open they take three others, and change
-/// nothing.
-fn stand_ins(rt: &HostRuntime) -> [Option<File>; 3] {
-    [
-        File::open(rt, "/").ok(),
-        File::open(rt, "/").ok(),
-        File::open(rt, "/").ok(),
-    ]
-}
-
-/// The words after the program's name; an error where one is not UTF-8, or where memory ran out.
-fn words(rt: &HostRuntime) -> io::Result<Words> {
-    let mut list = Vec::new(rt.alloc());
-    for word in env::args(rt)?.skip(1) {
-        list.push(word)?;
-    }
-    Ok(Words::of(list))
-}
 
 /// The regular file that an opening is on, if it is on one.
 fn regular(rt: &HostRuntime, words: &Words, opening: Opening) -> Option<FileId> {
@@ -457,17 +443,28 @@ fn ended(rt: &HostRuntime, words: &Words, noted: &Noted, status: &Status) -> End
         .caution(noted, status, &mut errors)
 }
 
+/// Does what the words say of a command that keeps no sketch, and writes what went wrong.
+fn plain_ending(rt: &HostRuntime, words: &Words, tells: bool) -> Ending
+    ensures { (status : AnyStatus) × (result.code ≡ code_of status) }
+{
+    let mut noted = Noted::default();
+    let status = done(rt, words, &mut noted, tells);
+    ended(rt, words, &noted, &status)
+}
+
 /// Does what the words say, and writes what went wrong and what can be done about it. The code is
 /// that of a status.
 fn ending(rt: &HostRuntime) -> Ending
-    ensures { (status : AnyStatus) × (result.code ≡ code_of status) }
+    ensures { ((status : AnySketchStatus) × (result.code ≡ code_of_sketch status))
+        ⊎ ((status : AnyStatus) × (result.code ≡ code_of status)) }
 {
     match words(rt) {
         Ok(given) => {
             let (words, tells) = given.behind_progress();
-            let mut noted = Noted::default();
-            let status = done(rt, &words, &mut noted, tells);
-            ended(rt, &words, &noted, &status)
+            match sketch_verb(&words) {
+                Some(verb) => sketch_ending(rt, &words, verb, tells),
+                None => plain_ending(rt, &words, tells),
+            }
         }
         Err(error) => {
             let status = status_without_words(&error);

@@ -23,4 +23,10 @@ mod refused_panel_tests;
 #[cfg(test)]
 mod refused_words_tests;
 #[cfg(test)]
+mod sketch_advice_tests;
+#[cfg(test)]
+mod sketch_ending_tests;
+#[cfg(test)]
+mod sketch_words_tests;
+#[cfg(test)]
 mod sparing_tests;

@@ -1,0 +1,84 @@
+//! The files of sketches that words name, which are only read.
+
+ghost use Rattle.std.specs.Prelude.{◌≡◌, ◌<◌, ◌≤◌, ◌^◌, ◌+◌, ◌-◌, min, length, None, IfOk, IfSome};
+ghost use Rattle.std.specs.Prelude.{IsErrOf};
+ghost use Rattle.sip_ports.specs.Ports.{HasCause};
+
+use sip_keeping::file_opening;
+use sip_ports::{DeskStop, PortStop, load_file};
+use sip_sketch::SketchFiles;
+use sip_words::Words;
+use std::alloc::Global;
+
+/// The files that the words name of a command that keeps a sketch: 0 is the sketch itself, and k
+/// the k-th part. A load takes no lock. No contract can say what is in a file.
+#[derive(Drop)]
+pub(crate) struct NamedFiles<'a> {
+    rt: HostRuntime,
+    words: &'a Words,
+    faults: u64,
+    wants: u64,
+    ghost faults_fit: { faults < 2 ^ 64 },
+    ghost wants_fit: { wants < 2 ^ 64 },
+}
+
+impl<'a> NamedFiles<'a> {
+    /// The files that these words name, of which none was loaded.
+    pub(crate) fn new(rt: HostRuntime, words: &'a Words) -> Self {
+        NamedFiles {
+            rt,
+            words,
+            faults: 0,
+            wants: 0,
+        }
+    }
+
+    // Counts why a load stopped.
+    fn stopped(&mut self, stop: DeskStop) -> PortStop
+        ensures cause { (result ≡ PortStop.Failed
+            → self.new.faults ≡ min (self.old.faults + 1) (2 ^ 64 - 1))
+            × (result ≡ PortStop.OutOfMemory
+            → self.new.wants ≡ min (self.old.wants + 1) (2 ^ 64 - 1)) }
+        ensures faults { self.old.faults ≤ self.new.faults }
+        ensures wants { self.old.wants ≤ self.new.wants }
+    {
+        match stop {
+            DeskStop::OutOfMemory => {
+                self.wants = self.wants.saturating_add(1);
+                PortStop::OutOfMemory
+            }
+            // What takes no lock is never busy.
+            DeskStop::Failed | DeskStop::Busy => {
+                self.faults = self.faults.saturating_add(1);
+                PortStop::Failed
+            }
+        }
+    }
+}
+
+impl<'a> SketchFiles for NamedFiles<'a> {
+    ghost content = { λ _. None };
+
+    ghost faults = { λ files. files.faults };
+
+    ghost wants = { λ files. files.wants };
+
+    ghost is_sure = { λ _. ⊥ };
+
+    ghost faults_fit = { λ files. files.faults_fit };
+
+    ghost wants_fit = { λ files. files.wants_fit };
+
+    ghost sure_counts = { λ _ sure. absurd sure };
+
+    fn load(&mut self, alloc: Global, part: u32) -> Result<Option<Vec<u8>>, PortStop> {
+        let answer = match file_opening(part).name(self.words) {
+            Some(name) => load_file(&self.rt, alloc, name),
+            None => Err(DeskStop::Failed),
+        };
+        match answer {
+            Ok(file) => Ok(file),
+            Err(stop) => Err(self.stopped(stop)),
+        }
+    }
+}

@@ -1,0 +1,220 @@
+// The line and the exit code of each status of the commands that keep a sketch.
+
+use sip_command_tests::case::Case;
+use sip_keeping::finish_sketch;
+use sip_ports::{MemorySink, PortStop};
+use sip_sketch::{SketchPort, SketchStatus, Unlike};
+use sip_stream::Why;
+use sip_vector::Side;
+use std::alloc::Global;
+use std::process::Abort;
+use std::test::Fail;
+
+// A status, its exit code and its line.
+type Ending<'a> = (SketchStatus, u8, &'a str);
+
+const ENDINGS: &[Ending<'static>] = &[
+    (SketchStatus::Wrote, 0, ""),
+    (SketchStatus::Exists, 3, "sip: sketch exists\n"),
+    (
+        SketchStatus::BadSketch { part: 0, offset: 0 },
+        3,
+        "sip: bad sketch at offset 0\n",
+    ),
+    (
+        SketchStatus::BadSketch {
+            part: 1,
+            offset: 152,
+        },
+        3,
+        "sip: bad part 1 at offset 152\n",
+    ),
+    (
+        SketchStatus::BadSketch {
+            part: 1024,
+            offset: u64::MAX,
+        },
+        3,
+        "sip: bad part 1024 at offset 18446744073709551615\n",
+    ),
+    (SketchStatus::BadSeed, 3, "sip: seed too short\n"),
+    (SketchStatus::SeedSpent, 3, "sip: seed spent\n"),
+    (SketchStatus::Busy, 3, "sip: sketch is busy\n"),
+    (
+        SketchStatus::BadStream {
+            at: 2,
+            why: Why::Truncated,
+        },
+        3,
+        "sip: bad stream at record 2: Truncated\n",
+    ),
+    (
+        SketchStatus::BadStream {
+            at: 2147483648,
+            why: Why::TooHeavy(Side::Second),
+        },
+        3,
+        "sip: bad stream at record 2147483648: TooHeavy(1)\n",
+    ),
+    (
+        SketchStatus::BadStart {
+            records: 3,
+            is_sum: false,
+        },
+        3,
+        "sip: bad start, sketch has 3 records\n",
+    ),
+    (
+        SketchStatus::BadStart {
+            records: 3,
+            is_sum: true,
+        },
+        3,
+        "sip: bad start, sketch is a sum\n",
+    ),
+    (
+        SketchStatus::Behind { at: 2 },
+        3,
+        "sip: stream ends at record 2\n",
+    ),
+    (
+        SketchStatus::Unlike {
+            part: 2,
+            why: Unlike::Shape,
+        },
+        3,
+        "sip: part 2: Shape\n",
+    ),
+    (
+        SketchStatus::Unlike {
+            part: 1,
+            why: Unlike::Whole,
+        },
+        3,
+        "sip: part 1: Whole\n",
+    ),
+    (
+        SketchStatus::Unlike {
+            part: 3,
+            why: Unlike::UsedSeat,
+        },
+        3,
+        "sip: part 3: UsedSeat\n",
+    ),
+    (
+        SketchStatus::Unlike {
+            part: 2,
+            why: Unlike::NotNext,
+        },
+        3,
+        "sip: part 2: NotNext\n",
+    ),
+    (
+        SketchStatus::Unlike {
+            part: 2,
+            why: Unlike::Heavy(Side::First),
+        },
+        3,
+        "sip: part 2: Heavy(0)\n",
+    ),
+    (
+        SketchStatus::Unlike {
+            part: 1024,
+            why: Unlike::Heavy(Side::Second),
+        },
+        3,
+        "sip: part 1024: Heavy(1)\n",
+    ),
+    (
+        SketchStatus::Unlike {
+            part: 1,
+            why: Unlike::Missing,
+        },
+        3,
+        "sip: part 1: Missing\n",
+    ),
+    (
+        SketchStatus::Unlike {
+            part: 1,
+            why: Unlike::Fewer,
+        },
+        3,
+        "sip: part 1: Fewer\n",
+    ),
+    (
+        SketchStatus::ReadFault {
+            port: SketchPort::First,
+        },
+        4,
+        "sip: read fault on first\n",
+    ),
+    (
+        SketchStatus::ReadFault {
+            port: SketchPort::Second,
+        },
+        4,
+        "sip: read fault on second\n",
+    ),
+    (
+        SketchStatus::ReadFault {
+            port: SketchPort::Sketch,
+        },
+        4,
+        "sip: read fault on sketch\n",
+    ),
+    (
+        SketchStatus::ReadFault {
+            port: SketchPort::Part(7),
+        },
+        4,
+        "sip: read fault on part 7\n",
+    ),
+    (
+        SketchStatus::WriteFault {
+            port: SketchPort::Sketch,
+        },
+        4,
+        "sip: write fault on sketch\n",
+    ),
+    (
+        SketchStatus::WriteFault {
+            port: SketchPort::Report,
+        },
+        4,
+        "sip: write fault on report\n",
+    ),
+    (SketchStatus::OutOfMemory, 5, "sip: out of memory\n"),
+];
+
+fn check_endings(rt: &impl Abort, alloc: Global, rows: &[Ending]) {
+    for (index, (status, code, line)) in rows.iter().enumerate() {
+        let mut sink = MemorySink::new(alloc, 4096, Vec::new(alloc));
+        let ending = finish_sketch(status, &mut sink);
+        let case = Case {
+            name: line,
+            number: index as u64,
+        };
+        case.holds(ending.code == *code && ending.line == Ok(()))
+            .expect(rt, "a case");
+        case.writes(sink.bytes(), line.as_bytes())
+            .expect(rt, "a case");
+    }
+}
+
+// A write that fails leaves a front of the line, and the code: one byte a call, and the sixth call
+// fails.
+#[test]
+fn each_status_of_a_sketch_has_its_line_and_code(rt: HostRuntime) -> Result<(), Fail> {
+    let alloc = rt.alloc();
+    check_endings(&rt, alloc, ENDINGS);
+    let mut sink = MemorySink::new(alloc, 1, vec![in alloc; 6]?);
+    let ending = finish_sketch(&SketchStatus::Busy, &mut sink);
+    let case = Case {
+        name: "the sixth write fails",
+        number: 6,
+    };
+    case.holds(ending.code == 3 && ending.line == Err(PortStop::Failed))
+        .expect(&rt, "a case");
+    case.writes(sink.bytes(), b"sip: ").expect(&rt, "a case");
+    Ok(())
+}
