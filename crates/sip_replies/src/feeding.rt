@@ -137,7 +137,7 @@ impl Turn {
     /// due.
     ///
     /// Of a frame that is not whole the bytes lie in `frame`, which no other call may change.
-    pub(crate) fn feed<C: Check>(
+    pub fn feed<C: Check>(
         &mut self,
         check: &mut C,
         places: &mut [Entry],
@@ -185,7 +185,7 @@ impl Turn {
     }
 
     /// The other end closed. Where a reply is heard, that is its fault.
-    pub(crate) fn close(&mut self, frame: &mut Frame)
+    pub fn close(&mut self, frame: &mut Frame)
         ensures closed { is_hearing self.old.stage ≡ true
             → self.new ≡ record self.old { stage = stages.Rejected self.old.round Closed } }
         ensures empty { is_hearing self.old.stage ≡ true → frame_bytes frame.new ≡ [] }

@@ -1,5 +1,6 @@
 //! The talk of one query: a check of its replies, whatever its kind, and one loop that asks. What
-//! begins it is a [`Request`], the message of a query for one.
+//! begins it is a [`Request`], the message of a query for one. Whoever has a loop of their own, and
+//! no link, feeds the bytes that come to a [`Turn`].
 //!
 //! | file of `specs/` | what it defines |
 //! |---|---|
@@ -24,3 +25,4 @@ pub use asking::{AskStop, ask};
 pub use check::{Check, More, Said};
 pub use request::Request;
 pub use rising::is_above;
+pub use turn::{Stage, Turn};

@@ -25,7 +25,7 @@ use sip_wire::{Message, Reason, Version, encode_reveal};
 
 /// What comes next in the talk of a query, or what came of it.
 #[derive(Clone, Copy, Debug, PartialEq, Eq)]
-pub(crate) enum Stage {
+pub enum Stage {
     /// What is asked is to be sent.
     Asks,
     /// A reply is to come, or the rest of it.
@@ -39,9 +39,16 @@ pub(crate) enum Stage {
 }
 
 /// Where in its talk a query is. It knows no link: whoever has it sends what is due, and hands over
-/// each frame that came.
+/// what came.
+///
+/// [`begin`](Turn::begin) comes first. Then, until there is a [`verdict`](Turn::verdict): what is due
+/// is [sent](Turn::send), that is [told](Turn::sent), and the bytes that come are
+/// [fed](Turn::feed) in any pieces, until no reply is [awaited](Turn::is_hearing). The check, the
+/// places and the frame are those of all calls, with nothing changed in between. [`ask`](crate::ask)
+/// does so over a link. A call takes time in proportion to the bytes that it is given, and no
+/// memory.
 #[derive(Clone, Copy, Debug, PartialEq, Eq)]
-pub(crate) struct Turn {
+pub struct Turn {
     version: Version,
     depth: u8,
     // How many replies came whole.
@@ -62,7 +69,7 @@ fn judged(round: u8, said: Result<Said, Reason>) -> Stage
 impl Turn {
     /// Before anything was said. Where the check knows the answer without a reply, that is the
     /// verdict.
-    pub(crate) fn begin<C: Check>(check: &C, version: Version) -> Turn
+    pub fn begin<C: Check>(check: &C, version: Version) -> Turn
         requires { Begins (C.phase check.now) }
         ensures version { result.version ≡ version }
         ensures at { IsAt result (C.phase check.now) }
@@ -92,28 +99,28 @@ impl Turn {
     }
 
     /// The version of the frames.
-    pub(crate) fn version(&self) -> Version
+    pub fn version(&self) -> Version
         ensures { result ≡ self.now.version }
     {
         self.version
     }
 
     /// How many replies came whole.
-    pub(crate) fn round(&self) -> u8
+    pub fn round(&self) -> u8
         ensures { result ≡ self.now.round }
     {
         self.round
     }
 
     /// A reply is to come, or the rest of it.
-    pub(crate) fn is_hearing(&self) -> bool
+    pub fn is_hearing(&self) -> bool
         ensures { result ≡ is_hearing self.now.stage }
     {
         matches!(self.stage, Stage::Hears)
     }
 
     /// The verdict, once there is one.
-    pub(crate) fn verdict(&self) -> Option<Result<Said, AskStop>>
+    pub fn verdict(&self) -> Option<Result<Said, AskStop>>
         ensures { result ≡ verdict_of self.now.stage }
     {
         match self.stage {
@@ -124,11 +131,7 @@ impl Turn {
     }
 
     /// Sends what is due, and changes nothing: [`Turn::sent`] tells that it was sent.
-    pub(crate) fn send<Q: Request, L: Link>(
-        &self,
-        request: &Q,
-        link: &mut L,
-    ) -> Result<(), PortStop>
+    pub fn send<Q: Request, L: Link>(&self, request: &Q, link: &mut L) -> Result<(), PortStop>
         requires due { is_due self.now.stage ≡ true }
         requires below { IsBelow self.now.stage }
         requires fits { IsTrue (fits self.now.version (Q.message request.now)) }
@@ -144,7 +147,7 @@ impl Turn {
     }
 
     /// What was due was sent whole.
-    pub(crate) fn sent(&mut self)
+    pub fn sent(&mut self)
         ensures { self.new ≡ record self.old { stage = Stage.Hears } }
     {
         self.stage = Stage::Hears;
