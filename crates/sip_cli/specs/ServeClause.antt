@@ -23,8 +23,8 @@ status_of_store stores.PeerClosed = statuses.PeerClosed
 status_of_store stores.PeerFault = statuses.PeerFault
 status_of_store stores.OutOfMemory = statuses.OutOfMemory
 
--- The stream has these bytes in a form, and then those that are left; the link told `old`, and tells
--- `new`.
+-- The stream has these bytes in a form, and then those that are left; the link told `old`, and
+-- tells `new`.
 abbrev pub ServeClause : Form → Option (List ℕ) → Option (List ℕ)
     → Option (List TalkEvent) → Option (List TalkEvent) → Status → Type 0
 ServeClause form first left old new status =

@@ -9,9 +9,10 @@ ghost use Rattle.sip_lookup.specs.declared.task.LookTask.{LookTask as AnyLookTas
 ghost use Rattle.sip_moments.specs.declared.task.MomentTask.{MomentTask as AnyMomentTask};
 ghost use Rattle.sip_words.specs.declared.stream.Stream.{Stream as AnyStream};
 ghost use Rattle.sip_stream.specs.Made.{most_made};
-ghost use Rattle.sip_words.specs.Plan.{HasName, HaveNames, IsMarked, IsUnlessDash, Opens, audit_ports};
-ghost use Rattle.sip_words.specs.Plan.{file_name, help_ports, opening_of, play_ports, serve_ports};
-ghost use Rattle.sip_words.specs.Plan.{source_ports, stored_opening, transcript_ports, verify_ports};
+ghost use Rattle.sip_words.specs.Plan.{HasName, HaveNames, IsMarked, IsUnlessDash, Opens};
+ghost use Rattle.sip_words.specs.Plan.{audit_ports, file_name, help_ports, opening_of, play_ports};
+ghost use Rattle.sip_words.specs.Plan.{serve_ports, source_ports, stored_opening};
+ghost use Rattle.sip_words.specs.Plan.{transcript_ports, verify_ports};
 ghost use Rattle.sip_words.specs.Shapes.{IsStreamWord};
 ghost use Rattle.sip_words.specs.Words.{Spells, word, word as word_at};
 
@@ -344,8 +345,8 @@ impl PortPlan {
 /// `lookup` and `moments` the same without a transcript, for `play` without a link, for `panel`
 /// without either, for `help`, `helplook` and `helpmom` the two ends of their link, for `audit` its
 /// stream and the transcript, for `show` and `convert` the transcript, for `gen`, `lines` and
-/// `widen` their stream, for `serve` its stream and the two ends of its link, each of which may be a
-/// standard one.
+/// `widen` their stream, for `serve` its stream and the two ends of its link, which may be standard
+/// input and standard output.
 pub fn ports(words: &Words, command: &Command) -> PortPlan
     requires { Spells words.now command.now }
     ensures opens { Opens words.now command.now result }
