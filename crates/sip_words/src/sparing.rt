@@ -44,6 +44,16 @@ fn is_among(file: Option<FileId>, others: [Option<FileId>; 4]) -> bool
     }
 }
 
+// Whether a file is this one.
+fn is_same(file: Option<FileId>, other: Option<FileId>) -> bool
+    ensures { IsTrue result ↔ IsAmong file (other ∷ []) }
+{
+    match file {
+        Some(_) => file == other,
+        None => false,
+    }
+}
+
 // The opening, or none where this holds.
 fn spared_if(spared: bool, opening: Opening) -> Opening
     ensures { OpensUnless (IsTrue spared) opening result }
@@ -64,7 +74,7 @@ impl PortPlan {
         ensures { IsTrue result ↔ IsHeard files.now self.now }
     {
         match self.second {
-            Opening::Nothing => is_among(files.first, [files.from; 4]),
+            Opening::Nothing => is_same(files.first, files.from),
             Opening::Standard | Opening::Spared | Opening::Path { .. } | Opening::Made { .. } =>
                 false,
         }
