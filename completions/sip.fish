@@ -5,7 +5,8 @@ function __sip_words
     commandline -opc | string match -v -- --progress
 end
 
-# The kinds of the words behind a command. Where the last one is a question, more of them may follow.
+# The kinds of the words behind a command. Where the last one is a question, seats or a part, more of
+# them may follow.
 function __sip_kinds
     switch $argv[1]
         case verify
@@ -28,6 +29,16 @@ function __sip_kinds
             printf '%s\n' stream file helper record depth query
         case panel
             printf '%s\n' stream file helpers depth query
+        case begin
+            printf '%s\n' file file depth parts seats
+        case watch
+            printf '%s\n' file stored at every
+        case merge
+            printf '%s\n' file file part
+        case seats
+            printf '%s\n' file
+        case serve
+            printf '%s\n' stored end end
     end
 end
 
@@ -40,7 +51,7 @@ function __sip_candidates
     set -l kind
     if test $place -le (count $kinds)
         set kind $kinds[$place]
-    else if contains -- "$kinds[-1]" query lookup moment
+    else if contains -- "$kinds[-1]" query lookup moment seats part
         set kind $kinds[-1]
     end
     switch "$kind"
@@ -55,8 +66,21 @@ function __sip_candidates
             else
                 __fish_complete_path $word
             end
-        case file
+        case file part
             __fish_complete_path $word
+        case end
+            printf '%s\n' -\t'the standard stream'
+            __fish_complete_path $word
+        case parts
+            printf '%s\n' 1/1\t'the one part'
+        case at
+            printf '%s\n' 0\t'the first record' +\t'the next one'
+        case every
+            printf '%s\n' -\t'at the end alone'
+        case seats
+            printf '%s\n' entries:\t'N, for sub, index, pred and succ' \
+                sums:{0,1}:\t'N, for range, f2 and moment' products:\t'N, for inner' \
+                heavy:{0,1}:\t'N, for heavy and share'
         case record
             printf '%s\n' -\t'no record'
             __fish_complete_path $word
@@ -107,6 +131,11 @@ complete -c sip -n __sip_is_first -a lines -d 'print a stream as lines of text'
 complete -c sip -n __sip_is_first -a widen -d 'write a stream as wide records'
 complete -c sip -n __sip_is_first -a play -d 'ask a helper in the same program'
 complete -c sip -n __sip_is_first -a panel -d 'ask several of them in turn'
+complete -c sip -n __sip_is_first -a begin -d 'begin a sketch'
+complete -c sip -n __sip_is_first -a watch -d 'add what is new of a log to a sketch'
+complete -c sip -n __sip_is_first -a merge -d 'add up sketches'
+complete -c sip -n __sip_is_first -a seats -d 'list the seats of a sketch'
+complete -c sip -n __sip_is_first -a serve -d 'be the helper with a stream in a file'
 complete -c sip -n __sip_is_first -s h -l help -d 'print the page of all commands'
 complete -c sip -n __sip_is_first -l progress -d 'say how far the command is'
 complete -c sip -n __sip_is_first -s V -l version -d 'print the version'

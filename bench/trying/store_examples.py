@@ -120,15 +120,23 @@ def check_answers():
     for it in questions:
         heard += spelled(it, both)
     data = served(heard + BYE, stores.StoreTalk(lambda _: (GROWN, None))).written
-    same("what is held", data[: len(HELD)].hex(), HELD.hex())
-    at, lines = len(HELD), ""
     for it, (word, answer) in zip(questions, ANSWERS.items()):
         same(f"the answer to {word}", it.answer(both), answer)
+    same("what is replied", accepted(data), True)
+
+
+def accepted(data):
+    """Whether a helper that says this says what it holds, and all its replies are accepted."""
+    both, at, lines = vectors(V), len(HELD), ""
+    if data[:at] != HELD:
+        return False
+    for word, answer in ANSWERS.items():
+        it = asked(word)
         judged = verdict(it, both, 2, [2, 10], data, at, 1)
-        same(f"what is replied to {word}", (judged.said, judged.reason), (answer, None))
+        if (judged.said, judged.reason) != (answer, None):
+            return False
         at, lines = judged.ends[-1], lines + it.line(judged.said)
-    same("the end of the talk", at, len(data))
-    same("the lines", lines, LINES_OF_ANSWERS)
+    return at == len(data) and lines == LINES_OF_ANSWERS
 
 
 def check_runs():

@@ -5,7 +5,7 @@ use Rattle.sip_ports.specs.declared.port.TalkEvent.{TalkEvent}
 use Rattle.sip_verifier.specs.declared.status.Status.{Status}
 use Rattle.sip_verifier.specs.declared.status.Status.TheVariants as statuses
 use Rattle.sip_words.specs.declared.command.Command.{Command}
-use Rattle.sip_words.specs.declared.command.Command.TheVariants.{Verify, Help, Audit, Show, Convert, Gen, Lines, Widen, Play, Lookup, HelpLook, Moments, HelpMoments, Panel}
+use Rattle.sip_words.specs.declared.command.Command.TheVariants.{Verify, Help, Audit, Show, Convert, Gen, Lines, Widen, Play, Lookup, HelpLook, Moments, HelpMoments, Panel, Serve}
 use Rattle.sip_advice.specs.Pages.{PageClause}
 use Rattle.sip_cli.specs.Statuses.{Ends}
 
@@ -25,6 +25,7 @@ wanting HelpLook = tt
 wanting (Moments task) = refl
 wanting HelpMoments = tt
 wanting (Panel task names) = refl
+wanting (Serve form) = tt
 
 -- so a command that was not begun ends with a status of its own too
 pub ends_or_wants : (c : Command) (status : Option Status) → IfSome status (λ s. Ends c s)

@@ -1,9 +1,11 @@
 //! `sip`: checks the answer of a helper that keeps a stream for you.
 #![tactic(auto)]
 
+mod ends;
 mod named_files;
 mod sketching;
 mod start;
+mod store;
 
 ghost use Rattle.std.specs.Prelude.{◌≡◌, ◌⊎◌, ◌↔◌, ℕ, List, IsTrue, IfSome, IsSome, None};
 ghost use Rattle.sip_verifier.specs.declared.status.Status.{Status as AnyStatus};
@@ -20,8 +22,10 @@ ghost use Rattle.sip_cli.specs.ToldStream.{stream_form, stream_teller, unread};
 ghost use Rattle.sip_cli.specs.ToldTalk.{IsScript, talk_teller, unsaid};
 ghost use Rattle.sip_words.specs.Words.{IsSpelled, Spells, IsRefusedAt};
 
+use crate::ends::{FromEnd, ToEnd, from_end, from_file, regular, stream_file, to_end, to_file};
 use crate::sketching::sketch_ending;
 use crate::start::{stand_ins, words};
+use crate::store::obey_stored;
 use sip_advice::{
     Ending, Noted, SeedLook, Trouble, Unopened, finish, has_seed, page_of, page_without_file,
     status_without_words, write_page,
@@ -29,37 +33,28 @@ use sip_advice::{
 use sip_cli::{Lines, OPENING_FROM, OPENING_TO, ToldLink, ToldSource, obey, panel, play};
 use sip_keeping::sketch_verb;
 use sip_ports::{
-    FileLink, FileSink, FileSource, NullSink, Sink, Source, StderrSink, StdoutSink, write_whole,
+    FileSink, FileSource, NullSink, Sink, Source, StderrSink, StdoutSink, TwoWayLink, write_whole,
 };
 use sip_stream::MadeSource;
 use sip_vector::Negatives;
 use sip_verifier::Status;
 use sip_words::{
-    Command, FileId, LinkOrder, Opening, PlanFiles, PortPlan, Usage, Words, ports, read_words,
+    Command, LinkOrder, Opening, PlanFiles, PortPlan, Usage, Words, ports, read_words,
 };
 use std::fs::{self, File};
 use std::io::{self, Read, Stderr};
-use std::os::unix::fs::{MetadataExt, PermissionsExt};
+use std::os::unix::fs::PermissionsExt;
 use std::process::ExitCode;
 
-/// The regular file that an opening is on, if it is on one.
-fn regular(rt: &HostRuntime, words: &Words, opening: Opening) -> Option<FileId> {
-    let told = fs::metadata(rt, opening.name(words)?).ok()?;
-    told.is_file().then_some(FileId {
-        device: told.dev(),
-        inode: told.ino(),
-    })
-}
-
-/// The plan without the outputs that are another file of it: see `PortPlan::sparing`.
+/// The plan without what is another file of it: see `PortPlan::sparing`.
 fn sparing(rt: &HostRuntime, words: &Words, plan: &PortPlan) -> PortPlan
     ensures { (files : AnyFiles) × Spares files plan.now result }
 {
     plan.sparing(&PlanFiles {
-        first: regular(rt, words, plan.first),
+        first: stream_file(rt, words, plan),
         second: regular(rt, words, plan.second),
-        from: regular(rt, words, plan.from),
-        to: regular(rt, words, plan.to),
+        from: from_file(rt, words, plan.from),
+        to: to_file(rt, words, plan.to),
         keep: regular(rt, words, plan.keep),
     })
 }
@@ -198,7 +193,7 @@ fn source(
 }
 
 /// The link, which says what it waits for.
-type Peer = ToldLink<FileLink, StderrSink<Stderr>, HostRuntime>;
+type Peer = ToldLink<TwoWayLink<FromEnd, ToEnd>, StderrSink<Stderr>, HostRuntime>;
 
 /// Opens the two ends of the link, in the order of the plan: so two FIFOs can stand between the two
 /// sides. `None` where memory is refused.
@@ -218,18 +213,18 @@ fn link(
     let (from, to) = match plan.link_order() {
         LinkOrder::ToFirst => {
             say(rt, plan.to, OPENING_TO, tells);
-            let to = emptied(rt, words, plan.to, &mut noted.to);
+            let to = to_end(rt, words, plan.to, &mut noted.to);
             say(rt, plan.from, OPENING_FROM, tells);
-            (opened(rt, words, plan.from, &mut noted.from), to)
+            (from_end(rt, words, plan.from, &mut noted.from), to)
         }
         LinkOrder::FromFirst => {
             say(rt, plan.from, OPENING_FROM, tells);
-            let from = opened(rt, words, plan.from, &mut noted.from);
+            let from = from_end(rt, words, plan.from, &mut noted.from);
             say(rt, plan.to, OPENING_TO, tells);
-            (from, emptied(rt, words, plan.to, &mut noted.to))
+            (from, to_end(rt, words, plan.to, &mut noted.to))
         }
     };
-    let link = FileLink::new(from, to);
+    let link = TwoWayLink::new(from, to);
     Box::new(rt.alloc(), ToldLink::new(command, link, lines(rt, tells))).ok()
 }
 
@@ -327,7 +322,7 @@ fn obey_over<S: Source>(
             let told = &mut noted.negatives;
             obey_keeping(rt, command, first, &mut held, &mut *keep, told)
         }
-        Opening::Nothing | Opening::Made { .. } => {
+        Opening::Nothing | Opening::Standard | Opening::Made { .. } => {
             let told = &mut noted.negatives;
             obey_keeping(rt, command, first, &mut held, &mut NullSink::new(), told)
         }
@@ -348,10 +343,14 @@ fn obey_opened(
 {
     let asked = ports(words, command);
     let plan = sparing(rt, words, &asked);
+    noted.first = Unopened::taken(asked.first, plan.first);
     noted.to = Unopened::taken(asked.to, plan.to);
     noted.keep = Unopened::taken(asked.keep, plan.keep);
     if has_seed(words) {
         noted.seed = seed_look(rt, words, plan.second).unwrap_or_default();
+    }
+    if let Command::Serve { .. } = command {
+        return obey_stored(rt, words, command, &plan, noted, tells);
     }
     match &asked.first {
         Opening::Made {
@@ -363,7 +362,7 @@ fn obey_opened(
             let mut first = made(rt, command, source, tells)?;
             obey_over(rt, words, command, &plan, &mut *first, noted, tells)
         }
-        Opening::Nothing | Opening::Spared | Opening::Path { .. } => {
+        Opening::Nothing | Opening::Standard | Opening::Spared | Opening::Path { .. } => {
             let mut first = stream(rt, words, command, asked.first, noted, tells)?;
             obey_over(rt, words, command, &plan, &mut *first, noted, tells)
         }

@@ -20,7 +20,7 @@ use Rattle.sip_words.specs.declared.stream.Stream.TheVariants.{File}
 use Rattle.sip_words.specs.declared.verb.Verb.{Verb}
 use Rattle.sip_words.specs.declared.verb.Verb.TheVariants.{Verify, Help, Audit, Show, Convert, Gen}
 use Rattle.sip_words.specs.declared.verb.Verb.TheVariants.{Lines, Widen, Play, Lookup, HelpLook}
-use Rattle.sip_words.specs.declared.verb.Verb.TheVariants.{Moments, HelpMoments, Panel}
+use Rattle.sip_words.specs.declared.verb.Verb.TheVariants.{Moments, HelpMoments, Panel, Serve}
 use Rattle.sip_advice.specs.Noting.{cause_of}
 use Rattle.sip_advice.specs.Quoting.{quoted}
 use Rattle.sip_words.specs.Shapes.{IsStreamWord}
@@ -55,6 +55,7 @@ places HelpLook = place.Verb ∷ place.From ∷ place.To ∷ []
 places Moments = place.Verb ∷ place.Stream ∷ place.Seed ∷ place.From ∷ place.To ∷ place.Depth ∷ []
 places HelpMoments = place.Verb ∷ place.From ∷ place.To ∷ []
 places Panel = place.Verb ∷ place.Stream ∷ place.Seed ∷ place.Helpers ∷ place.Depth ∷ []
+places Serve = place.Verb ∷ place.Stored ∷ place.Input ∷ place.Output ∷ []
 
 -- what stands behind these words, where the verb asks something
 abbrev pub asked_by : Verb → Role
@@ -112,6 +113,8 @@ place_hint place.Stored word = hints.STORED.now
 place_hint place.Seed word = hints.SEED.now
 place_hint place.From word = hints.FROM.now
 place_hint place.To word = hints.TO.now
+place_hint place.Input word = hints.INPUT.now
+place_hint place.Output word = hints.OUTPUT.now
 place_hint place.Record word = hints.RECORD.now
 place_hint place.Helper word = hints.HELPER.now
 place_hint place.Transcript word = hints.TRANSCRIPT.now
@@ -219,6 +222,8 @@ role_name place.Stored = codes "STORED"
 role_name place.Seed = codes "SEED"
 role_name place.From = codes "FROM"
 role_name place.To = codes "TO"
+role_name place.Input = codes "FROM"
+role_name place.Output = codes "TO"
 role_name place.Record = codes "RECORD"
 role_name place.Transcript = codes "TRANSCRIPT"
 role_name _ = codes "FILE"

@@ -4,11 +4,13 @@ use Rattle.sip_advice.specs.declared.page_text.TheConstants.{AUDIT_PART, CONVERT
 use Rattle.sip_advice.specs.declared.page_text.TheConstants.{HELP_PART, HELPLOOK_PART, HELPMOM_PART}
 use Rattle.sip_advice.specs.declared.page_text.TheConstants.{LINES_PART, LOOKUP_PART, MOMENTS_PART}
 use Rattle.sip_advice.specs.declared.page_text.TheConstants.{PANEL_PART, PLAY_PART, SHOW_PART}
-use Rattle.sip_advice.specs.declared.page_text.TheConstants.{VERIFY_PART, WIDEN_PART}
+use Rattle.sip_advice.specs.declared.page_text.TheConstants.{VERIFY_PART, WIDEN_PART, SERVE_PART}
+use Rattle.sip_advice.specs.declared.page_text.TheConstants.{BEGIN_PART, WATCH_PART, MERGE_PART}
+use Rattle.sip_advice.specs.declared.page_text.TheConstants.{SEATS_PART}
 use Rattle.sip_words.specs.declared.verb.Verb.{Verb}
 use Rattle.sip_words.specs.declared.verb.Verb.TheVariants.{Verify, Help, Audit, Show, Convert, Gen}
 use Rattle.sip_words.specs.declared.verb.Verb.TheVariants.{Lines, Widen, Play, Lookup, HelpLook}
-use Rattle.sip_words.specs.declared.verb.Verb.TheVariants.{Moments, HelpMoments, Panel}
+use Rattle.sip_words.specs.declared.verb.Verb.TheVariants.{Moments, HelpMoments, Panel, Serve}
 use Rattle.sip_words.specs.Verbs.{verb_word}
 use Rattle.sip_ports.specs.declared.port.TalkEvent.{TalkEvent}
 use Rattle.sip_ports.specs.Ports.{GoesOn, outs}
@@ -40,11 +42,25 @@ part_of HelpLook = HELPLOOK_PART.now
 part_of Moments = MOMENTS_PART.now
 part_of HelpMoments = HELPMOM_PART.now
 part_of Panel = PANEL_PART.now
+part_of Serve = SERVE_PART.now
 
--- the words are a verb and one that asks for help, and this is the verb's part of the page
+-- the part that is about a command which keeps a sketch, by the first word of it
+abbrev pub IsSketchPart : List ℕ → List ℕ → Type 0
+IsSketchPart word text = ((word ≡ codes "begin") × (text ≡ BEGIN_PART.now))
+    ⊎ ((word ≡ codes "watch") × (text ≡ WATCH_PART.now))
+    ⊎ ((word ≡ codes "merge") × (text ≡ MERGE_PART.now))
+    ⊎ ((word ≡ codes "seats") × (text ≡ SEATS_PART.now))
+
+-- the part that is about a command, by the first word of it
+abbrev pub IsPart : List ℕ → List ℕ → Type 0
+IsPart word text = ((verb : Verb) × (word ≡ verb_word verb) × (text ≡ part_of verb))
+    ⊎ IsSketchPart word text
+
+-- the words are the first word of a command and one that asks for help, and this is the command's
+-- part of the page
 abbrev pub AsksPart : List (List ℕ) → List ℕ → Type 0
-AsksPart words text = (verb : Verb) × (word : List ℕ) × AsksHelp word
-    × (words ≡ verb_word verb ∷ word ∷ []) × (text ≡ part_of verb)
+AsksPart words text = (first : List ℕ) × (second : List ℕ) × AsksHelp second
+    × (words ≡ first ∷ second ∷ []) × IsPart first text
 
 -- no other words ask for a text
 abbrev pub AsksText : List (List ℕ) → Type 0

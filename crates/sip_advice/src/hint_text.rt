@@ -5,7 +5,7 @@
 /// A verb, the first word.
 pub(crate) const VERB: &str = "\
 the first word is verify, play, panel, help, lookup, helplook, moments, helpmom, audit, \
-show, convert, gen, lines or widen; sip --help tells of each";
+show, convert, gen, lines, widen, begin, watch, merge, seats or serve; sip --help tells of each";
 
 /// A stream.
 pub(crate) const STREAM: &str = "\
@@ -14,7 +14,7 @@ STREAM is PATH, text:PATH, wide:PATH or made:NUMBER:COUNT with COUNT up to \
 
 /// A stream that a file holds.
 pub(crate) const STORED: &str = "\
-STORED is PATH, text:PATH or wide:PATH, the stream that the run was about";
+STORED is PATH, text:PATH or wide:PATH: a stream in a file, for audit that of the run";
 
 /// A seed.
 pub(crate) const SEED: &str = "\
@@ -27,6 +27,14 @@ FROM is the file or FIFO that brings the other side's bytes";
 /// The end of a link that takes bytes.
 pub(crate) const TO: &str = "\
 TO is the file or FIFO that takes the bytes for the other side";
+
+/// The end of a link that brings bytes, or standard input.
+pub(crate) const INPUT: &str = "\
+FROM is the file or FIFO that brings the other side's bytes, or - for standard input";
+
+/// The end of a link that takes bytes, or standard output.
+pub(crate) const OUTPUT: &str = "\
+TO is the file or FIFO that takes the bytes for the other side, or - for standard output";
 
 /// The file of the transcript.
 pub(crate) const RECORD: &str = "\
@@ -131,7 +139,7 @@ pub(crate) const DENIED: &str = "permission denied";
 
 /// Another file of the command.
 pub(crate) const TAKEN: &str = "\
-it is another file of this command too, and would be emptied";
+it is another file of this command too, and would be spoiled";
 
 /// Another reason.
 pub(crate) const OTHER: &str = "the system does not open it";
@@ -189,7 +197,7 @@ a frame";
 /// Bytes that no verifier sends there.
 pub(crate) const FRAME: &str = "\
 FROM is TO of the other side, and TO its FROM: sip help is for sip verify, sip helplook \
-for sip lookup, and sip helpmom for sip moments";
+for sip lookup, sip helpmom for sip moments, and sip serve for one who has a sketch";
 
 /// The stream failed.
 pub(crate) const FIRST: &str = "\
@@ -215,5 +223,5 @@ the other side has left";
 
 /// The verifier left.
 pub(crate) const LEFT: &str = "\
-the other side, sip verify, sip lookup or sip moments, left before its end and says \
+the other side, as sip verify, sip lookup or sip moments, left before its end and says \
 why";

@@ -12,7 +12,7 @@
 //!
 //! | file of `specs/` | what it defines |
 //! |---|---|
-//! | `Pages` | the words that ask for a text, the part that is a verb's, and when it was printed |
+//! | `Pages` | the words that ask for a text, the part about a command, and when it was printed |
 //! | `Exit` | the code of each status |
 //! | `StatusLine` | the line of each status |
 //! | `Hints` | what stands at each word, the line of advice, and what each line says |
@@ -25,10 +25,12 @@ mod exit;
 mod hint_text;
 mod noted;
 mod page;
+mod page_parts;
 mod page_text;
 mod place;
 mod quoting;
 mod reason_text;
+mod sketch_parts;
 mod status_text;
 
 pub use advice::{HINT_ROOM, HintLine, has_seed, hint};
@@ -36,7 +38,8 @@ pub use exit::{Ending, exit_code, finish, status_without_words};
 pub use noted::{Noted, SeedLook, Trouble, Unopened};
 pub use page::{page_of, page_without_file, write_page};
 pub use page_text::{
-    AUDIT_PART, CONVERT_PART, GEN_PART, HELP, HELP_PART, HELPLOOK_PART, HELPMOM_PART, LINES_PART,
-    LOOKUP_PART, MOMENTS_PART, PANEL_PART, PLAY_PART, SHOW_PART, VERIFY_PART, VERSION, WIDEN_PART,
+    AUDIT_PART, BEGIN_PART, CONVERT_PART, GEN_PART, HELP, HELP_PART, HELPLOOK_PART, HELPMOM_PART,
+    LINES_PART, LOOKUP_PART, MERGE_PART, MOMENTS_PART, PANEL_PART, PLAY_PART, SEATS_PART,
+    SERVE_PART, SHOW_PART, VERIFY_PART, VERSION, WATCH_PART, WIDEN_PART,
 };
 pub use status_text::status_line;

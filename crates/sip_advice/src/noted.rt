@@ -18,7 +18,7 @@ pub enum Trouble {
     Directory,
     /// The system does not permit it.
     Denied,
-    /// It is another file of the command, which must not be emptied.
+    /// It is another file of the command, which must not be emptied or read away.
     Taken,
     /// The system has another reason.
     Other,
@@ -54,7 +54,7 @@ impl Unopened {
     {
         match opening {
             Opening::Path { word, .. } => Some(Unopened { word, why }),
-            Opening::Nothing | Opening::Spared | Opening::Made { .. } => None,
+            Opening::Nothing | Opening::Standard | Opening::Spared | Opening::Made { .. } => None,
         }
     }
 
@@ -64,7 +64,8 @@ impl Unopened {
     {
         match done {
             Opening::Spared => Unopened::of(asked, Trouble::Taken),
-            Opening::Nothing | Opening::Path { .. } | Opening::Made { .. } => None,
+            Opening::Nothing | Opening::Standard | Opening::Path { .. } | Opening::Made { .. } =>
+                None,
         }
     }
 }

@@ -4,13 +4,14 @@ ghost use Rattle.std.specs.Prelude.{◌≡◌, ◌⊎◌, ◌↔◌, ℕ, IsTrue
 ghost use Rattle.std.specs.Option.{option_copied};
 ghost use Rattle.sip_ports.specs.Ports.{Lasts, Rose};
 ghost use Rattle.sip_advice.specs.Pages.{AsksHelp, AsksPart, AsksText, AsksVersion, PageClause};
-ghost use Rattle.sip_advice.specs.Pages.{part_of};
+ghost use Rattle.sip_advice.specs.Pages.{IsPart, IsSketchPart, part_of};
 ghost use Rattle.sip_words.specs.declared.command.Command.{Command as AnyCommand};
 ghost use Rattle.sip_words.specs.Words.{IsRefusedAt, Spells};
 
 use crate::page_text::{
-    AUDIT_PART, CONVERT_PART, GEN_PART, HELP, HELP_PART, HELPLOOK_PART, HELPMOM_PART, LINES_PART,
-    LOOKUP_PART, MOMENTS_PART, PANEL_PART, PLAY_PART, SHOW_PART, VERIFY_PART, VERSION, WIDEN_PART,
+    AUDIT_PART, BEGIN_PART, CONVERT_PART, GEN_PART, HELP, HELP_PART, HELPLOOK_PART, HELPMOM_PART,
+    LINES_PART, LOOKUP_PART, MERGE_PART, MOMENTS_PART, PANEL_PART, PLAY_PART, SEATS_PART,
+    SERVE_PART, SHOW_PART, VERIFY_PART, VERSION, WATCH_PART, WIDEN_PART,
 };
 use sip_ports::{PortStop, Sink, write_whole};
 use sip_verifier::{Port, Status};
@@ -55,6 +56,32 @@ fn part(verb: Verb) -> &'static str
         Verb::Moments => MOMENTS_PART,
         Verb::HelpMoments => HELPMOM_PART,
         Verb::Panel => PANEL_PART,
+        Verb::Serve => SERVE_PART,
+    }
+}
+
+// The part that is about a command which keeps a sketch, if this word is the first of one.
+fn sketch_part(word: &str) -> Option<&'static str>
+    ensures part { (text : List ℕ) → IsSketchPart word.now text → option_copied result ≡ Some text }
+    ensures only { IfSome result (λ text. IsSketchPart word.now text.now) }
+{
+    match word {
+        "begin" => Some(BEGIN_PART),
+        "watch" => Some(WATCH_PART),
+        "merge" => Some(MERGE_PART),
+        "seats" => Some(SEATS_PART),
+        _ => None,
+    }
+}
+
+// The part that is about the command of which this word is the first.
+fn part_about(word: &str) -> Option<&'static str>
+    ensures part { (text : List ℕ) → IsPart word.now text → option_copied result ≡ Some text }
+    ensures only { IfSome result (λ text. IsPart word.now text.now) }
+{
+    match Verb::of(word) {
+        Some(verb) => Some(part(verb)),
+        None => sketch_part(word),
     }
 }
 
@@ -65,9 +92,8 @@ fn part_asked(words: &Words) -> Option<&'static str>
     ensures only { IfSome result (λ text. AsksPart words.now text.now) }
 {
     let (first, second) = words.pair()?;
-    let verb = Verb::of(first)?;
     if asks_help(second) {
-        Some(part(verb))
+        part_about(first)
     } else {
         None
     }
@@ -87,9 +113,9 @@ fn part_alone(words: &Words) -> Option<&'static str>
     }
 }
 
-/// The part of the page that words ask for which are a command too: `show --help` and `convert
-/// --help`, or the same with `-h`, whose second word may be the name of a file. It is for where
-/// there is no such file, and the command could do nothing.
+/// The part of the page that words ask for which are a command of [`read_words`] too: `show --help`
+/// and `convert --help`, or the same with `-h`, whose second word may be the name of a file. It is
+/// for where there is no such file, and the command could do nothing.
 pub fn page_without_file(words: &Words) -> Option<&'static str>
     ensures part { (text : List ℕ) (command : AnyCommand) → AsksPart words.now text
         → Spells words.now command → option_copied result ≡ Some text }
@@ -104,8 +130,9 @@ pub fn page_without_file(words: &Words) -> Option<&'static str>
 }
 
 /// The text that the words ask for in place of a command: the page for `--help` or `-h` alone, the
-/// version for `--version` or `-V` alone, and for a verb with `--help` or `-h` behind it its part
-/// of the page. These words are no command, so that a text hides none.
+/// version for `--version` or `-V` alone, and for the first word of a command with `--help` or `-h`
+/// behind it its part of the page. These words are no command of [`read_words`], so that a text
+/// hides none; but `seats --help` is one that keeps a sketch, if there is a file of that name.
 pub fn page_of(words: &Words) -> Option<&'static str>
     ensures help { (w : List ℕ) → AsksHelp w → words.now ≡ w ∷ []
         → option_copied result ≡ Some HELP.now }

@@ -1,212 +1,7 @@
 //! The text of the page, of which some parts are printed alone too. Each is written once.
 
-// The parts about verify, play, panel, help, lookup, helplook, moments, helpmom, audit, show,
-// convert, gen, lines and widen, for a part's name or for `page`.
-macro_rules! text_of {
-    ($which:ident) => {
-        chosen!(
-            $which
-            "  sip verify STREAM SEED FROM TO RECORD DEPTH QUERY..
-
-      Sends the stream to a helper, asks 1 to 16 queries, checks the replies and
-      prints a line for each answer.
-
-      STREAM  a file of records, or wide:PATH, which is a file of wide records,
-              or text:PATH, which is a file of lines as sip lines prints them,
-              or made:NUMBER:COUNT, which is COUNT records made from NUMBER
-      SEED    a file that begins with 32 random bytes, of which each run needs
-              new ones
-      FROM    the file or FIFO that brings the helper's bytes
-      TO      the file or FIFO that takes ours
-      RECORD  the file that gets the transcript of the run: its queries, their
-              challenges and the helper's replies; or - for none
-      DEPTH   from 1 to 48; items are the numbers below 2^DEPTH
-      QUERY   sub:LO:HI           the entries of side 0 from LO to HI that are
-                                  not 0
-              range:SIDE:LO:HI    the sum of the entries of a side from LO to HI
-              f2:SIDE             the sum of the squares of the entries of a
-                                  side
-              inner               the sum of the products of the entries of both
-                                  sides
-              heavy:SIDE:T        the entries of a side that are T or more
-              share:SIDE:NUM:DEN  the entries of a side that are NUM/DEN of its
-                                  total or more
-              with LO up to HI, HI below 2^DEPTH, SIDE 0 or 1, T from 1 to
-              2^63 - 1, and NUM from 1 to DEN, which is up to 1000000. The last
-              two are answered where no entry of the side is below 0.
-
-      sip verify log.stream today.seed from.fifo to.fifo - 20 sub:100:199 range:0:0:1048575 inner
-"
-            "  sip play STREAM SEED HELPER RECORD DEPTH QUERY..
-
-      Does what sip verify does with a helper of its own, and needs no other
-      program: to see what is asked and answered.
-
-      HELPER  honest, which answers as it should; skewed, which counts item 0 of
-              side 0 once more, so that its answers about that side are
-              rejected; mute, which says nothing, so that the first query is
-              rejected
-              The other words are those of sip verify.
-
-      sip play made:7:100000 today.seed honest - 20 sub:0:99 range:0:0:1048575 f2:0 inner
-"
-            "  sip panel STREAM SEED HELPERS DEPTH QUERY..
-
-      Does what sip verify does with several helpers of its own, which hear the
-      same stream: asks each query of one after another until the replies of one
-      are accepted, and prints the line of that answer.
-
-      HELPERS  1 to 16 of honest, skewed and mute, which are those of sip play,
-               with a comma between two of them: the first is asked first
-               The other words are those of sip verify. The number of helpers
-               times that of queries is 16 at most.
-
-      A helper whose reply is rejected is asked no more: dropped helper I query
-      K round J REASON is its line among the answers, with I counted from 1 as K
-      is. A run is rejected where none is left. Each helper keeps the stream,
-      and no transcript is kept.
-
-      sip panel made:7:100000 today.seed mute,skewed,honest 20 sub:0:99 f2:0
-"
-            "  sip help FROM TO
-
-      Is the helper: keeps the stream that a verifying sip sends, and answers
-      its queries.
-
-      FROM    the file or FIFO that brings the verifier's bytes, which is its TO
-      TO      the file or FIFO that takes ours, which is its FROM
-
-      sip help to.fifo from.fifo
-"
-            "  sip lookup STREAM SEED FROM TO DEPTH LOOKUP..
-
-      Sends the stream to a helper, asks 1 to 16 lookups of side 0, checks the
-      replies and prints a line for each one.
-
-      LOOKUP  index:I  the entry at I
-              pred:I   the nearest entry that is not 0 at I or below, with its
-                       item, or none
-              succ:I   the nearest entry that is not 0 at I or above, with its
-                       item, or none
-              with I below 2^DEPTH
-              The other words are those of sip verify.
-
-      The helper names the place of the nearest entry, and shows that there is
-      none between it and I. A lookup costs at most DEPTH multiplications for
-      each record of side 0, and DEPTH + 1 short replies. Memory is a little
-      more than 1 MiB, whatever the stream is. No transcript is kept.
-
-      sip lookup log.stream today.seed from.fifo to.fifo 20 index:1 pred:99 succ:100
-"
-            "  sip helplook FROM TO
-
-      Is the helper of sip lookup: keeps the stream that it sends, and answers
-      its lookups.
-
-      FROM    the file or FIFO that brings the other side's bytes, which is its
-              TO
-      TO      the file or FIFO that takes ours, which is its FROM
-
-      Memory grows with the entries that are not 0, as that of sip help does. A
-      lookup costs a search among those of side 0, and then what sub:LO:HI costs
-      sip help.
-
-      sip helplook to.fifo from.fifo
-"
-            "  sip moments STREAM SEED FROM TO DEPTH MOMENT..
-
-      Sends the stream to a helper, asks 1 to 16 moments, checks the replies and
-      prints a line for each answer.
-
-      MOMENT  moment:SIDE:K  the sum of the K-th powers of the entries of a
-                             side, with SIDE 0 or 1 and K from 3 to 8
-              The other words are those of sip verify.
-
-      The second moment is f2 of sip verify. How great K may be depends on the
-      weight of the side, as LIMITS say. A moment costs at most DEPTH
-      multiplications for each record of its side, and DEPTH replies of K + 1
-      numbers. Memory is that of a frame, whatever the stream is. No transcript
-      is kept.
-
-      sip moments log.stream today.seed from.fifo to.fifo 20 moment:0:3 moment:1:3
-"
-            "  sip helpmom FROM TO
-
-      Is the helper of sip moments: keeps the stream that it sends, and answers
-      its moments.
-
-      FROM    the file or FIFO that brings the other side's bytes, which is its
-              TO
-      TO      the file or FIFO that takes ours, which is its FROM
-
-      Memory grows with the entries that are not 0, as that of sip help does,
-      and a moment takes as much again for those of its side.
-
-      sip helpmom to.fifo from.fifo
-"
-            "  sip audit STORED TRANSCRIPT
-
-      Checks a stored run again, without a helper: reads the queries, the
-      challenges and the replies from TRANSCRIPT and the stream from STORED, and
-      prints the lines that the run printed.
-
-      STORED      the stream that the run was about: a file of records, or
-                  wide:PATH or text:PATH as for sip verify
-      TRANSCRIPT  the file that sip verify or sip play kept as its RECORD
-
-      sip audit log.stream today.record
-"
-            "  sip show TRANSCRIPT
-
-      Lists a transcript: its depth, each query with its challenges, and each
-      frame of the helper.
-
-      TRANSCRIPT  the file that sip verify or sip play kept as its RECORD
-
-      sip show today.record
-"
-            "  sip convert TRANSCRIPT
-
-      Writes a transcript with the same content in version 2, in whose frames
-      items have eight bytes.
-
-      TRANSCRIPT  as for sip show
-
-      sip convert today.record > wide.record
-"
-            "  sip gen NUMBER COUNT DEPTH
-
-      Writes a stream of COUNT records that are made from NUMBER: wide records
-      where DEPTH is above 32.
-
-      NUMBER  below 2^64
-      COUNT   up to 10000000
-      DEPTH   from 1 to 48
-
-      sip gen 7 100000 20 > log.stream
-"
-            "  sip lines STREAM DEPTH
-
-      Prints a stream as lines of text: a side, an item and what is added to its
-      entry, with one space between them.
-
-      STREAM  as for sip verify
-      DEPTH   from 1 to 48
-
-      sip lines log.stream 20
-"
-            "  sip widen STREAM DEPTH
-
-      Writes a stream as wide records.
-
-      STREAM  as for sip verify
-      DEPTH   from 1 to 48
-
-      sip widen log.stream 20 > wide.stream
-"
-        )
-    };
-}
+use crate::page_parts::text_of;
+use crate::sketch_parts::with_sketches;
 
 // The part of a name among all of them, in their order: each name but the first leaves one part out
 // and takes the name before it. `page` has all of them.
@@ -253,6 +48,21 @@ macro_rules! chosen {
     (widen $part:literal $($rest:literal)*) => {
         chosen!(lines $($rest)*)
     };
+    (begin $part:literal $($rest:literal)*) => {
+        chosen!(widen $($rest)*)
+    };
+    (watch $part:literal $($rest:literal)*) => {
+        chosen!(begin $($rest)*)
+    };
+    (merge $part:literal $($rest:literal)*) => {
+        chosen!(watch $($rest)*)
+    };
+    (seats $part:literal $($rest:literal)*) => {
+        chosen!(merge $($rest)*)
+    };
+    (serve $part:literal $($rest:literal)*) => {
+        chosen!(seats $($rest)*)
+    };
     (page $($part:literal)*) => {
         concat!(
             "\
@@ -272,7 +82,8 @@ USAGE
                              seconds, and before each wait for the other side
 
 Behind the name of a command --help and -h print its part of this page, as sip
-verify --help does; behind show and convert they name a file, if there is one.
+verify --help does; behind show, convert and seats they name a file, if there is
+one.
 
 A record has 13 bytes: a side (one byte, 0 or 1), an item (four bytes) and what
 is added to its entry (eight bytes, signed), the first byte of a number being
@@ -285,8 +96,13 @@ FILES
 TO and RECORD are made where there is nothing of that name, and emptied where
 there is a file. No other file is changed. Where TO or RECORD is the same file
 as STREAM, SEED, FROM or the other of the two, under whatever name, it is not
-opened: it keeps what it has, and the command fails there. A FIFO, or a device
-as /dev/null, may stand at several words.
+opened: it keeps what it has, and the command fails there. So does sip serve
+where STORED is FROM. A FIFO, or a device as /dev/null, may stand at several
+words.
+
+SKETCH is replaced whole: a run that is killed leaves it as it was, or as it was
+stored. Beside it stand SKETCH.lock, which one run has at a time, and for a
+moment SKETCH.new.
 
 KEEPING THE SEED
 
@@ -362,13 +178,13 @@ that begins with sip: hint: and stands alone.
   sip: bad frame at offset N
       What FROM brings to a helper is from byte N on nothing that its other side
       sends there. FROM and TO are those of the other side, the other way round:
-      of sip verify for sip help, of sip lookup for sip helplook, and of sip
-      moments for sip helpmom.
+      of sip verify for sip help, of sip lookup for sip helplook, of sip moments
+      for sip helpmom, and of one who has a sketch for sip serve.
 
   sip: read fault on FILE, sip: write fault on FILE
       The file could not be opened, read or written: first is STREAM or STORED,
-      second is SEED or TRANSCRIPT, record is RECORD, and report is standard
-      output.
+      second is SEED or TRANSCRIPT, record is RECORD, report is standard output,
+      sketch is SKETCH, and part K is the K-th PART.
 
   sip: peer fault
       FROM or TO could not be opened, read or written, or the other side had
@@ -384,6 +200,38 @@ that begins with sip: hint: and stands alone.
       With --progress alone, and in front of all other lines. FILE is FROM or
       TO. K and J are those of a rejected reply. The last line is that of a
       helper, before it hears anything and after each 64 MiB or three seconds.
+
+  sip: bad sketch at offset N, sip: bad part K at offset N
+      From byte N on SKETCH, or the K-th PART, is no sketch, or it is missing.
+      Put no earlier copy in its place: seats that were used would be unused.
+
+  sip: sketch exists
+      A sketch is never begun anew: take another name, or remove the file if it
+      was never asked.
+
+  sip: bad start, sketch has N records, sip: bad start, sketch is a sum
+      AT is above the number of records that the sketch has; or it has several
+      parts, and these are watched and merged again.
+
+  sip: stream ends at record N
+      The sketch has that record, and STORED ends before it, as a log does that
+      was rotated: watch the log of before to its end, and then this one from
+      the number of its first record.
+
+  sip: part K: WHY
+      The K-th PART does not go into the sum.
+
+      Shape     its depth, parts, seats or challenges are not those of the
+                others: begin all parts with the same words and the same SEED
+      Whole     all parts are in it, as in a sum
+      UsedSeat  a seat of it was used
+      NotNext   it is not the part behind the one before
+      Heavy(S)  with it side S comes to more than LIMITS say
+      Missing   behind it a part is missing that SKETCH has
+      Fewer     up to it the sum has fewer records than SKETCH, or less weight
+
+  sip: sketch is busy
+      Another run has SKETCH: do it again later.
 
   sip: out of memory
       Memory ran out. A helper keeps each item that is not 0, and sip verify an
@@ -431,12 +279,12 @@ says nothing about the answer.
 STATUS
 
   0  every answer was accepted and printed, a talk was served to its end, or a
-     stream or a transcript was written to its end
+     stream, a transcript or a sketch was written to its end
   1  a reply of the helper was rejected, or in a panel one of each helper
   2  the words are no command
-  3  the stream, the seed, the transcript or a frame of the verifier is not as
-     it has to be, or more than 65536 entries could be T or more, or a moment
-     could be above what a claim has room for
+  3  the stream, the seed, the transcript, a sketch or a frame of the verifier
+     is not as it has to be, or more than 65536 entries could be T or more, or a
+     moment could be above what a claim has room for
   4  a file, the link or the output failed, or the verifier left before its
      farewell
   5  memory ran out
@@ -491,6 +339,22 @@ pub const LINES_PART: &str = text_of!(lines);
 
 /// What `sip widen --help` prints: the part of the page that is about `widen`.
 pub const WIDEN_PART: &str = text_of!(widen);
+
+/// What `sip begin --help` prints: the part of the page that is about `begin`.
+pub const BEGIN_PART: &str = text_of!(begin);
+
+/// What `sip watch --help` prints: the part of the page that is about `watch`.
+pub const WATCH_PART: &str = text_of!(watch);
+
+/// What `sip merge --help` prints: the part of the page that is about `merge`.
+pub const MERGE_PART: &str = text_of!(merge);
+
+/// What `sip seats --help` prints where no file has that name: the part of the page that is about
+/// `seats`.
+pub const SEATS_PART: &str = text_of!(seats);
+
+/// What `sip serve --help` prints: the part of the page that is about `serve`.
+pub const SERVE_PART: &str = text_of!(serve);
 
 /// The line that `sip --version` prints.
 pub const VERSION: &str = "sip 0.1.0\n";

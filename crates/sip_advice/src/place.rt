@@ -20,6 +20,10 @@ pub(crate) enum Role {
     Seed,
     From,
     To,
+    /// FROM where it may be standard input.
+    Input,
+    /// TO where it may be standard output.
+    Output,
     Record,
     Helper,
     Transcript,
@@ -88,6 +92,8 @@ const LOOKUP: [Role; 6] = [
     Role::Depth,
 ];
 
+const SERVE: [Role; 4] = [Role::Verb, Role::Stored, Role::Input, Role::Output];
+
 // The places of a verb's words, the verb among them, and before what it asks.
 fn places_of(verb: Verb) -> &'static [Role]
     ensures { result.now ≡ places verb }
@@ -105,6 +111,7 @@ fn places_of(verb: Verb) -> &'static [Role]
         Verb::Lookup | Verb::Moments => &LOOKUP,
         Verb::HelpLook | Verb::HelpMoments => &HELP,
         Verb::Panel => &PANEL,
+        Verb::Serve => &SERVE,
     }
 }
 
@@ -134,7 +141,8 @@ fn behind_asked(verb: Verb) -> usize
         | Verb::Lines
         | Verb::Widen
         | Verb::HelpLook
-        | Verb::HelpMoments => 0,
+        | Verb::HelpMoments
+        | Verb::Serve => 0,
     };
     places_of(verb).len() + asked
 }
@@ -160,8 +168,8 @@ impl Role {
             Role::Stream => "STREAM",
             Role::Stored => "STORED",
             Role::Seed => "SEED",
-            Role::From => "FROM",
-            Role::To => "TO",
+            Role::From | Role::Input => "FROM",
+            Role::To | Role::Output => "TO",
             Role::Record => "RECORD",
             Role::Transcript => "TRANSCRIPT",
             _ => "FILE",
@@ -180,6 +188,8 @@ impl Role {
             Role::Seed => text::SEED,
             Role::From => text::FROM,
             Role::To => text::TO,
+            Role::Input => text::INPUT,
+            Role::Output => text::OUTPUT,
             Role::Record => text::RECORD,
             Role::Helper => text::HELPER,
             Role::Transcript => text::TRANSCRIPT,

@@ -1,6 +1,6 @@
 -- What each command keeps, and that the command keeps no more: the one call that does it carries
 -- the clause of the command.
-use Rattle.std.proofs.Common.{◌≡◌, ℕ, List, [], Option, Some, refl, sym, subst}
+use Rattle.std.proofs.Common.{◌≡◌, ℕ, List, [], Option, Some, IsSome, refl, sym, subst}
 use Rattle.arrayvec.specs.ArrayVec.{ArrayVec}
 use Rattle.sip_ports.specs.declared.port.TalkEvent.{TalkEvent}
 use Rattle.sip_ports.specs.Ports.{GoesOn, outs}
@@ -35,11 +35,12 @@ use Rattle.sip_transcript.specs.Listings.{listing}
 use Rattle.sip_transcript.specs.Tales.{Tale}
 use Rattle.sip_transcript.specs.Writing.{Writes}
 use Rattle.sip_words.specs.declared.command.Command.{Command}
-use Rattle.sip_words.specs.declared.command.Command.TheVariants.{Verify, Help, Audit, Show, Convert, Gen, Lines, Widen, Play, Lookup, HelpLook, Moments, HelpMoments, Panel}
+use Rattle.sip_words.specs.declared.command.Command.TheVariants.{Verify, Help, Audit, Show, Convert, Gen, Lines, Widen, Play, Lookup, HelpLook, Moments, HelpMoments, Panel, Serve}
 use Rattle.sip_words.specs.declared.helper_name.HelperName.{HelperName}
 use Rattle.sip_cli.specs.CommandClause.{CommandClause, MomentPromises, unkept}
 use Rattle.sip_cli.specs.CopyClause.{CopyClause}
 use Rattle.sip_cli.specs.HelpClause.{HelpClause}
+use Rattle.sip_cli.specs.ServeClause.{ServeClause}
 use Rattle.sip_cli.specs.Statuses.{Ends}
 use Rattle.sip_cli.proofs.UnkeptRuns.{caused, completed, faulted, moves_all, tells_rest, untold}
 
@@ -78,11 +79,17 @@ module _ (before now : Snapshot) (status : Status) where
       → MomentPromises task (unkept x) before.faults now.faults status
   Keeps HelpMoments = HelpClause ServesMoments before.talk now.talk status
   Keeps (Panel task names) = Verified task
+  Keeps (Serve form) = ServeClause form before.first now.first before.talk now.talk status
+
+  -- there is an exchange that the ports tell
+  abbrev pub Moves : Command → Type 0
+  Moves d = IsTold before → ((form : Form) → d ≡ Serve form → IsSome now.first)
+      → (x : Exchange) × Tells before now x
 
 module _ {before now : Snapshot} {status : Status} where
   -- where the command is known, what it keeps is all that is to be kept
   pub obeys : {c : Command} (d : Command) → c ≡ d → Keeps before now status d
-      → (IsTold before → (x : Exchange) × Tells before now x)
+      → Moves before now status d
       → FaultClause before.faults now.faults status → Ends d status
       → CommandClause (λ is. c ≡ is) before now status
   obeys d e kept moves fault listed =
@@ -104,6 +111,7 @@ module _ {before now : Snapshot} {status : Status} where
         help_look = λ is. subst (Keeps before now status) is kept;
         moments = λ task is. subst (Keeps before now status) is kept;
         help_moments = λ is. subst (Keeps before now status) is kept;
+        serve = λ form is. subst (Keeps before now status) is kept;
         moves = moves;
         fault = fault;
         listed = λ command is. subst (λ (c : Command). Ends c status) is listed;
@@ -113,21 +121,21 @@ module _ {before now : Snapshot} {status : Status} where
 
   pub verify_keeps : {c : Command} (task : Task) → c ≡ Verify task
       → RunClause task before now status → CommandClause (λ is. c ≡ is) before now status
-  verify_keeps task e k = obeys (Verify task) e k.promises k.moves k.fault k.listed
+  verify_keeps task e k = obeys (Verify task) e k.promises (λ is still. k.moves is) k.fault k.listed
 
   pub play_keeps : {c : Command} (task : Task) (name : HelperName) → c ≡ Play task name
       → RunClause task before now status → CommandClause (λ is. c ≡ is) before now status
-  play_keeps task name e k = obeys (Play task name) e k.promises k.moves k.fault k.listed
+  play_keeps task name e k = obeys (Play task name) e k.promises (λ is still. k.moves is) k.fault k.listed
 
   pub panel_keeps : {c : Command} (task : Task) (names : ArrayVec HelperName) → c ≡ Panel task names
       → RunClause task before now status → CommandClause (λ is. c ≡ is) before now status
-  panel_keeps task names e k = obeys (Panel task names) e k.promises k.moves k.fault k.listed
+  panel_keeps task names e k = obeys (Panel task names) e k.promises (λ is still. k.moves is) k.fault k.listed
 
   pub audit_keeps : {c : Command} (form : Form) → c ≡ Audit form
       → AuditClause form before now status
       → (IsTold before → (x : Exchange) × Tells before now x)
       → CommandClause (λ is. c ≡ is) before now status
-  audit_keeps form e k moves = obeys (Audit form) e k moves k.fault k.listed
+  audit_keeps form e k moves = obeys (Audit form) e k (λ is still. moves is) k.fault k.listed
 
   -- the record is not kept
   look_promised : (task : LookTask) → LookClause task (untold before) (untold now) status
@@ -164,22 +172,23 @@ module _ {before now : Snapshot} {status : Status} where
       → LookClause task (untold before) (untold now) status → now.keep ≡ before.keep
       → CommandClause (λ is. c ≡ is) before now status
   look_keeps task e k same =
-      obeys (Lookup task) e (look_promised task k) (moves_all same k.moves)
+      obeys (Lookup task) e (look_promised task k) (λ is still. moves_all same k.moves is)
       (faulted before.faults now.faults status k.fault) k.listed
 
   pub moments_keeps : {c : Command} (task : MomentTask) → c ≡ Moments task
       → MomentClause task (untold before) (untold now) status → now.keep ≡ before.keep
       → CommandClause (λ is. c ≡ is) before now status
   moments_keeps task e k same =
-      obeys (Moments task) e (moment_promised task k) (moves_all same k.moves)
+      obeys (Moments task) e (moment_promised task k) (λ is still. moves_all same k.moves is)
       (faulted before.faults now.faults status k.fault) k.listed
 
   -- ---- by another sign
 
   -- what a command keeps, it keeps for all who know it by another sign
   pub known_by : {Is Other : Command → Type 0} → ((command : Command) → Other command → Is command)
+      → ((command : Command) → Is command → Other command)
       → CommandClause Is before now status → CommandClause Other before now status
-  known_by tells k = record {
+  known_by tells knows k = record {
     verify = λ task is. k.verify task (tells (Verify task) is);
     play = λ task name is. k.play task name (tells (Play task name) is);
     panel = λ task names is. k.panel task names (tells (Panel task names) is);
@@ -195,7 +204,8 @@ module _ {before now : Snapshot} {status : Status} where
     help_look = λ is. k.help_look (tells HelpLook is);
     moments = λ task is. k.moments task (tells (Moments task) is);
     help_moments = λ is. k.help_moments (tells HelpMoments is);
-    moves = k.moves;
+    serve = λ form is. k.serve form (tells (Serve form) is);
+    moves = λ told still. k.moves told (λ form is. still form (knows (Serve form) is));
     fault = k.fault;
     listed = λ command is. k.listed command (tells command is);
   }
@@ -219,7 +229,8 @@ none_keeps {m = m} word none = record {
   help_look = λ is. absurd (none HelpLook is);
   moments = λ task is. absurd (none (Moments task) is);
   help_moments = λ is. absurd (none HelpMoments is);
-  moves = λ is. tells m m is (λ some. some) [] (GoesOn-refl _) [] (GoesOn-refl _) []
+  serve = λ form is. absurd (none (Serve form) is);
+  moves = λ is still. tells m m is (λ some. some) [] (GoesOn-refl _) [] (GoesOn-refl _) []
       (GoesOn-refl _);
   fault = tt;
   listed = λ command is. absurd (none command is);

@@ -8,7 +8,7 @@ use Rattle.sip_verifier.specs.declared.status.Status.{Status}
 use Rattle.sip_verifier.specs.declared.status.Status.TheVariants as statuses
 use Rattle.sip_verifier.specs.Exchanges.{TakesAtMost}
 use Rattle.sip_words.specs.declared.command.Command.{Command}
-use Rattle.sip_words.specs.declared.command.Command.TheVariants.{Verify, Help, Audit, Show, Convert, Gen, Lines, Widen, Play, Lookup, HelpLook, Moments, HelpMoments, Panel}
+use Rattle.sip_words.specs.declared.command.Command.TheVariants.{Verify, Help, Audit, Show, Convert, Gen, Lines, Widen, Play, Lookup, HelpLook, Moments, HelpMoments, Panel, Serve}
 use Rattle.sip_cli.specs.CommandClause.{CommandClause}
 use Rattle.sip_cli.specs.DoneClause.{DoneClause, Used, Rests, Wanted, before_done, after_done}
 use Rattle.sip_cli.specs.Statuses.{IsCopy, IsHelp, IsRendering, IsUnkept, ReadsTranscript}
@@ -63,6 +63,7 @@ module _ {A B L K C : Type 0} (first : Used A ℕ) (second : Used B ℕ) (peer :
   Leaves (Moments task) = Rests keep × Seeded
   Leaves HelpMoments = Helped
   Leaves (Panel task names) = Seeded
+  Leaves (Serve form) = Rests second × Rests report × Rests keep
 
   left_by_copies : (d : Command) → Leaves d → IsCopy d → Copied
   left_by_copies (Gen depth) l is = l
@@ -85,6 +86,10 @@ module _ {A B L K C : Type 0} (first : Used A ℕ) (second : Used B ℕ) (peer :
       → Rests peer × Rests keep
   left_by_audits d form l is = subst Leaves is l
 
+  left_by_serve : (d : Command) (form : Form) → Leaves d → d ≡ Serve form
+      → Rests second × Rests report × Rests keep
+  left_by_serve d form l is = subst Leaves is l
+
   left_by_shows : (d : Command) → Leaves d → IsRendering d → Rendered
   left_by_shows Show l is = l
   left_by_shows Convert l is = l
@@ -105,6 +110,7 @@ module _ {A B L K C : Type 0} (first : Used A ℕ) (second : Used B ℕ) (peer :
   left_seed (Moments task) l free = l.1
   left_seed HelpMoments l free = none_taken_of second l.1
   left_seed (Panel task names) l free = l
+  left_seed (Serve form) l free = none_taken_of second l.0
 
   done_so : (d : Command)
       → CommandClause (λ is. d ≡ is) (before_done first second peer report keep)
@@ -119,6 +125,7 @@ module _ {A B L K C : Type 0} (first : Used A ℕ) (second : Used B ℕ) (peer :
         (λ (k : Command). IsCopy k → status ≡ statuses.OutOfMemory → Wanted first ⊎ Wanted report)
         is (λ copies. (left_by_copies d l copies).1);
     helps_apart = λ command is. subst (λ (k : Command). IsHelp k → Helped) is (left_by_helps d l);
+    serves_apart = λ form is. left_by_serve d form l is;
     unkept = λ command is. subst (λ (k : Command). IsUnkept k → Rests keep) is (left_unkept d l);
     audits_apart = λ form is. left_by_audits d form l is;
     shows_apart = λ command is. subst (λ (k : Command). IsRendering k → Rendered) is
@@ -144,10 +151,11 @@ module _ {A B L K C : Type 0} {first : Used A ℕ} {second : Used B ℕ} {peer :
       → DoneClause Is first second peer report keep status
       → DoneClause Other first second peer report keep status
   done_by is_so so_is k = record {
-    keeps = known_by is_so k.keeps;
+    keeps = known_by is_so so_is k.keeps;
     copies_apart = λ command so. k.copies_apart command (is_so command so);
     copies_want = λ command so. k.copies_want command (is_so command so);
     helps_apart = λ command so. k.helps_apart command (is_so command so);
+    serves_apart = λ form so. k.serves_apart form (is_so (Serve form) so);
     unkept = λ command so. k.unkept command (is_so command so);
     audits_apart = λ form so. k.audits_apart form (is_so (Audit form) so);
     shows_apart = λ command so. k.shows_apart command (is_so command so);
@@ -167,6 +175,7 @@ module _ {A B L K C : Type 0} {Is : Command → Type 0} {first : Used A ℕ} {se
     copies_apart = λ command is. absurd (none command is);
     copies_want = λ command is. absurd (none command is);
     helps_apart = λ command is. absurd (none command is);
+    serves_apart = λ form is. absurd (none (Serve form) is);
     unkept = λ command is. absurd (none command is);
     audits_apart = λ form is. absurd (none (Audit form) is);
     shows_apart = λ command is. absurd (none command is);

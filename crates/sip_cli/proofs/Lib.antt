@@ -6,3 +6,4 @@ pub mod PlayLemmas
 pub mod PanelLemmas
 pub mod Telling
 pub mod StoredRuns
+pub mod ServeTalks

@@ -19,7 +19,7 @@ use Rattle.sip_verifier.specs.declared.status.Status.TheVariants as statuses
 use Rattle.sip_verifier.specs.declared.task.Task.{Task}
 use Rattle.sip_verifier.specs.Tasks.{CanBeAsked, CanBeDone}
 use Rattle.sip_words.specs.declared.command.Command.{Command}
-use Rattle.sip_words.specs.declared.command.Command.TheVariants.{Verify, Help, Audit, Show, Convert, Gen, Lines, Widen, Play, Lookup, HelpLook, Moments, HelpMoments, Panel}
+use Rattle.sip_words.specs.declared.command.Command.TheVariants.{Verify, Help, Audit, Show, Convert, Gen, Lines, Widen, Play, Lookup, HelpLook, Moments, HelpMoments, Panel, Serve}
 use Rattle.sip_words.specs.declared.helper_name.HelperName.{HelperName}
 use Rattle.sip_words.specs.declared.verb.Verb.{Verb}
 use Rattle.sip_words.specs.declared.verb.Verb.TheVariants as verbs
@@ -137,6 +137,7 @@ ends_otherwise HelpLook word listed = listed
 ends_otherwise (Moments task) word listed = absurd (true≢false (sym listed))
 ends_otherwise HelpMoments word listed = listed
 ends_otherwise (Panel task names) word listed = absurd (true≢false (sym listed))
+ends_otherwise (Serve form) word listed = listed
 
 pub never_usage : (c : Command) (status : Status) (word : ℕ)
     → Ends c status → status ≡ statuses.Usage word → ⊥

@@ -7,9 +7,10 @@ use Rattle.sip_words.specs.declared.command.Command.{Command}
 use Rattle.sip_words.specs.declared.command.Command.TheVariants.{Verify, Help, Audit, Show, Convert}
 use Rattle.sip_words.specs.declared.command.Command.TheVariants.{Gen, Lines, Widen, Play, Lookup}
 use Rattle.sip_words.specs.declared.command.Command.TheVariants.{HelpLook, Moments, HelpMoments}
-use Rattle.sip_words.specs.declared.command.Command.TheVariants.{Panel}
+use Rattle.sip_words.specs.declared.command.Command.TheVariants.{Panel, Serve}
 use Rattle.sip_words.specs.declared.helper_name.HelperName.{HelperName}
 use Rattle.sip_cli.specs.HelpClause.{HelpClause}
+use Rattle.sip_cli.specs.ServeClause.{ServeClause}
 use Rattle.sip_cli.specs.Statuses.{Ends}
 use Rattle.sip_helper.specs.Serving.{Serves}
 use Rattle.sip_lookup.specs.declared.task.LookTask.{LookTask}
@@ -93,8 +94,13 @@ pub record CommandClause (Is : Command → Type 0) (before now : Snapshot) (stat
       → MomentPromises task (unkept x) before.faults now.faults status
   -- `helpmom`: a talk of moments is served
   pub help_moments : Is HelpMoments → HelpClause ServesMoments before.talk now.talk status
-  -- ports that tell go on telling, so there is an exchange that they tell
-  pub moves : IsTold before → (x : Exchange) × Tells before now x
+  -- `serve`: a talk of questions is served over the stream
+  pub serve : (form : Form) → Is (Serve form)
+      → ServeClause form before.first now.first before.talk now.talk status
+  -- ports that tell go on telling, so there is an exchange that they tell; where the stream of
+  -- `serve` could not be heard to where it was to be, it is not said that it does
+  pub moves : IsTold before → ((form : Form) → Is (Serve form) → IsSome now.first)
+      → (x : Exchange) × Tells before now x
   -- whatever the ports tell, a fault of a port comes only where its own count rose
   pub fault : FaultClause before.faults now.faults status
   -- no status comes but those of the command

@@ -1,7 +1,7 @@
 -- All that a call does with its five ports where it does a command.
 use Rattle.std.specs.Prelude.{◌≡◌, ◌⊎◌, ℕ, List, Option}
 use Rattle.sip_words.specs.declared.command.Command.{Command}
-use Rattle.sip_words.specs.declared.command.Command.TheVariants.{Audit}
+use Rattle.sip_words.specs.declared.command.Command.TheVariants.{Audit, Serve}
 use Rattle.sip_cli.specs.CommandClause.{CommandClause}
 use Rattle.sip_cli.specs.Statuses.{IsCopy, IsHelp, IsRendering, IsUnkept, ReadsTranscript}
 use Rattle.sip_ports.specs.declared.port.TalkEvent.{TalkEvent}
@@ -64,6 +64,8 @@ pub record DoneClause {A B L K C : Type 0} (Is : Command → Type 0) (first : Us
       → Wanted first ⊎ Wanted report
   pub helps_apart : (command : Command) → Is command → IsHelp command
       → Rests first × Rests second × Rests report × Rests keep
+  -- one who serves a stream that it has reads that alone
+  pub serves_apart : (form : Form) → Is (Serve form) → Rests second × Rests report × Rests keep
   -- lookups and moments keep no record of their talk
   pub unkept : (command : Command) → Is command → IsUnkept command → Rests keep
   -- An audit leaves the link and the record of a talk alone, and to write what a transcript tells

@@ -3,6 +3,7 @@ pub mod ToldStream
 pub mod ToldTalk
 pub mod CopyClause
 pub mod HelpClause
+pub mod ServeClause
 pub mod PlayClause
 pub mod PanelWordsClause
 pub mod Statuses

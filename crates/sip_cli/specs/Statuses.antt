@@ -28,6 +28,12 @@ EndsHelp statuses.PeerFault = Unit {0}
 EndsHelp statuses.OutOfMemory = Unit {0}
 EndsHelp _ = ⊥
 
+-- of `serve`
+abbrev pub EndsServe : Status → Type 0
+EndsServe (statuses.BadStream at why) = Unit {0}
+EndsServe (statuses.ReadFault ports.First) = Unit {0}
+EndsServe status = EndsHelp status
+
 abbrev pub Ends : Command → Status → Type 0
 Ends (command.Verify task) status = IsListed status
 Ends command.Help status = EndsHelp status
@@ -43,6 +49,7 @@ Ends command.HelpLook status = EndsHelp status
 Ends (command.Moments task) status = moments.IsListed status
 Ends command.HelpMoments status = EndsHelp status
 Ends (command.Panel task names) status = IsListed status
+Ends (command.Serve form) status = EndsServe status
 
 -- the command copies a stream
 abbrev pub IsCopy : Command → Type 0
@@ -60,6 +67,7 @@ IsCopy command.HelpLook = ⊥
 IsCopy (command.Moments task) = ⊥
 IsCopy command.HelpMoments = ⊥
 IsCopy (command.Panel task names) = ⊥
+IsCopy (command.Serve form) = ⊥
 
 -- the command reads a transcript
 abbrev pub ReadsTranscript : Command → Type 0
@@ -77,6 +85,7 @@ ReadsTranscript command.HelpLook = ⊥
 ReadsTranscript (command.Moments task) = ⊥
 ReadsTranscript command.HelpMoments = ⊥
 ReadsTranscript (command.Panel task names) = ⊥
+ReadsTranscript (command.Serve form) = ⊥
 
 -- the command writes what a transcript tells
 abbrev pub IsRendering : Command → Type 0
@@ -94,8 +103,9 @@ IsRendering command.HelpLook = ⊥
 IsRendering (command.Moments task) = ⊥
 IsRendering command.HelpMoments = ⊥
 IsRendering (command.Panel task names) = ⊥
+IsRendering (command.Serve form) = ⊥
 
--- the command serves a talk
+-- the command serves a talk, whose stream it hears
 abbrev pub IsHelp : Command → Type 0
 IsHelp (command.Verify task) = ⊥
 IsHelp command.Help = Unit {0}
@@ -111,6 +121,7 @@ IsHelp command.HelpLook = Unit {0}
 IsHelp (command.Moments task) = ⊥
 IsHelp command.HelpMoments = Unit {0}
 IsHelp (command.Panel task names) = ⊥
+IsHelp (command.Serve form) = ⊥
 
 -- the command asks a helper, and keeps no record of the talk
 abbrev pub IsUnkept : Command → Type 0
@@ -128,3 +139,4 @@ IsUnkept command.HelpLook = ⊥
 IsUnkept (command.Moments task) = Unit {0}
 IsUnkept command.HelpMoments = ⊥
 IsUnkept (command.Panel task names) = ⊥
+IsUnkept (command.Serve form) = ⊥

@@ -30,6 +30,7 @@ stream_form command.HelpLook = Binary
 stream_form (command.Moments task) = task.form
 stream_form command.HelpMoments = Binary
 stream_form (command.Panel task names) = task.form
+stream_form (command.Serve form) = form
 
 -- nothing was read, and a line is due
 abbrev pub unread : Form → Reading

@@ -13,6 +13,7 @@
 //! | `DoneClause` | all that a call does which does a command: what it keeps, which ports rest |
 //! | `CommandClause` | what each command keeps |
 //! | `CopyClause`, `HelpClause` | what is kept by commands that copy a stream, or serve a talk |
+//! | `ServeClause` | what is kept by one that serves a talk over a stream in a file |
 //! | `PlayClause`, `PanelWordsClause` | the promises over the links to helpers in the program |
 //! | `Statuses` | the statuses of each command |
 //! | `Checking` | which commands tell which sides of a stream had a delta below 0 |
@@ -28,6 +29,7 @@ pub mod laws;
 mod panelling;
 mod playing;
 mod progress;
+mod serving;
 mod told_link;
 mod told_source;
 mod top;

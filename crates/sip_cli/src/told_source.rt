@@ -24,8 +24,10 @@ fn form_of(command: &Command) -> Form
     match command {
         Command::Verify(task) | Command::Play(task, _) | Command::Panel(task, _) => task.form,
         Command::Gen { depth } => Form::made(*depth),
-        Command::Audit { form } | Command::Lines { form, .. } | Command::Widen { form, .. } =>
-            *form,
+        Command::Audit { form }
+        | Command::Lines { form, .. }
+        | Command::Widen { form, .. }
+        | Command::Serve { form } => *form,
         Command::Lookup(task) => task.form,
         Command::Moments(task) => task.form,
         Command::Help

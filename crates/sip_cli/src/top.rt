@@ -8,6 +8,7 @@ ghost use Rattle.sip_words.specs.Words.{IsSpelled, Spells, IsRefusedAt};
 
 use crate::copying::copy_stream;
 use crate::helping::{help, help_look, help_moments};
+use crate::serving::serve;
 use sip_lookup::look_stream;
 use sip_moments::moment_stream;
 use sip_ports::{Link, Sink, Source};
@@ -61,6 +62,10 @@ use std::alloc::Global;
 /// `helplook FROM TO` and `helpmom FROM TO`: serve one talk of lookups, or of moments, over `peer`.
 /// Memory grows with the entries that are not 0.
 ///
+/// `serve STORED FROM TO`: serves one talk of questions of every kind over `peer`. It is told how
+/// many records of `first` to hear, and hears the first so many, or all where there are fewer; it
+/// says what they come to, and answers by these. Memory grows with the entries that are not 0.
+///
 /// `negatives` gets of `verify`, `play`, `panel` and `audit` which sides of the stream had a delta
 /// below 0, of those whose large entries are asked for.
 pub fn obey<A: Source, B: Source, L: Link, K: Sink, C: Sink>(
@@ -76,10 +81,10 @@ pub fn obey<A: Source, B: Source, L: Link, K: Sink, C: Sink>(
     requires { IsSpelled command.now }
     // Of `verify`, `play` and `panel` the seven promises, of `lookup` and `moments` their five, of
     // `gen`, `lines` and `widen` the copy that the report gets, of `help`, `helplook` and `helpmom`
-    // the talk that it serves, of `audit` what a stored run is judged to be, and of `show` and
-    // `convert` what the report gets of the transcript; and whatever the command, its faults have
-    // their cause, its status is one of its own, and the ports that it has no use for are as they
-    // were.
+    // the talk that it serves, of `serve` the same and how the stream is heard, of `audit` what a
+    // stored run is judged to be, and of `show` and `convert` what the report gets of the
+    // transcript; and whatever the command, its faults have their cause, its status is one of its
+    // own, and the ports that it has no use for are as they were.
     ensures done { DoneClause (λ is. command.now ≡ is)
         (used A.left A.faults A.wants first.old first.new)
         (used B.left B.faults B.wants second.old second.new)
@@ -119,6 +124,7 @@ pub fn obey<A: Source, B: Source, L: Link, K: Sink, C: Sink>(
         Command::HelpLook => help_look(alloc, peer),
         Command::Moments(task) => moment_stream(alloc, task, first, second, peer, report),
         Command::HelpMoments => help_moments(alloc, peer),
+        Command::Serve { form } => serve(alloc, *form, first, peer),
         Command::Panel(task, _) => {
             check_stream(alloc, task, first, second, peer, report, keep, negatives)
         }

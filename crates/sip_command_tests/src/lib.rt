@@ -49,4 +49,6 @@ mod question_frames;
 #[cfg(test)]
 mod row_tests;
 #[cfg(test)]
+mod serve_tests;
+#[cfg(test)]
 mod sum_fault_tests;

@@ -17,10 +17,12 @@ ghost use Rattle.sip_words.specs.declared.command.Command.TheVariants.{Verify, G
 ghost use Rattle.sip_words.specs.declared.command.Command.TheVariants.{Help, Audit, Play, Show};
 ghost use Rattle.sip_words.specs.declared.command.Command.TheVariants.{Convert, Lookup, HelpLook};
 ghost use Rattle.sip_words.specs.declared.command.Command.TheVariants.{Moments, HelpMoments, Panel};
+ghost use Rattle.sip_words.specs.declared.command.Command.TheVariants.{Serve};
 ghost use Rattle.sip_words.specs.declared.helper_name.HelperName.{HelperName};
 ghost use Rattle.sip_cli.specs.CommandClause.{MomentPromises, unkept};
 ghost use Rattle.sip_cli.specs.CopyClause.{CopyClause};
 ghost use Rattle.sip_cli.specs.HelpClause.{HelpClause};
+ghost use Rattle.sip_cli.specs.ServeClause.{ServeClause};
 ghost use Rattle.sip_cli.specs.Statuses.{Ends};
 ghost use Rattle.sip_words.specs.Words.{Spells, IsRefusedAt};
 ghost use Rattle.sip_helper.specs.Serving.{Serves};
@@ -116,6 +118,9 @@ pub fn run_in_memory(
     ensures help_look { Spells words.now HelpLook → HelpClause ServesLooks
         (Some (link_talk peer.old)) (Some (link_talk peer.new)) result }
     ensures help_moments { Spells words.now HelpMoments → HelpClause ServesMoments
+        (Some (link_talk peer.old)) (Some (link_talk peer.new)) result }
+    ensures served { (form : Form) → Spells words.now (Serve form)
+        → ServeClause form (Some (source_left first.old)) (Some (source_left first.new))
         (Some (link_talk peer.old)) (Some (link_talk peer.new)) result }
 
     // A stored run is judged again by what moved, and its lines are new on the report.

@@ -147,7 +147,7 @@ fn form_and_depth(command: &Command) -> (Option<Form>, u8) {
         Command::Lines { form, depth } | Command::Widen { form, depth } => {
             (Some(*form), depth.get())
         }
-        Command::Audit { form } => (Some(*form), 0),
+        Command::Audit { form } | Command::Serve { form } => (Some(*form), 0),
         Command::Play(..)
         | Command::Help
         | Command::Show
@@ -186,6 +186,9 @@ const READ: &[Read<'static>] = &[
     ("audit|s|t", Some(Form::Binary), 0),
     ("audit|text:s|t", Some(Form::Text), 0),
     ("audit|wide:s|t", Some(Form::Wide), 0),
+    ("serve|s|f|t", Some(Form::Binary), 0),
+    ("serve|text:s|-|-", Some(Form::Text), 0),
+    ("serve|wide:made:7:1|f|t", Some(Form::Wide), 0),
     ("gen|7|1|32", None, 32),
     ("gen|7|1|48", None, 48),
     ("lines|s|1", Some(Form::Binary), 1),
@@ -308,6 +311,16 @@ const FILES: &[Files<'static>] = &[
     ),
     ("widen|s|48", &[Some("s"), None, None, None, None]),
     ("widen|s|49", NO_FILES),
+    (
+        "serve|text:s|f|t",
+        &[Some("s"), None, Some("f"), Some("t"), None],
+    ),
+    ("serve|-|-|-", &[Some("-"), None, None, None, None]),
+    (
+        "serve|w|./-|--",
+        &[Some("w"), None, Some("./-"), Some("--"), None],
+    ),
+    ("serve|made:7:1|f|t", NO_FILES),
 ];
 
 fn check_files(rt: &impl Abort, alloc: Global, rows: &[Files]) -> Result<(), Fail> {
@@ -359,7 +372,7 @@ fn made(opening: &Opening) -> Option<(u64, u64, u8)> {
             count,
             depth,
         } => Some((*number, *count, depth.get())),
-        Opening::Nothing | Opening::Spared | Opening::Path { .. } => None,
+        Opening::Nothing | Opening::Standard | Opening::Spared | Opening::Path { .. } => None,
     }
 }
 
@@ -375,8 +388,33 @@ fn check_made(rt: &impl Abort, alloc: Global, rows: &[Made]) -> Result<(), Fail>
     Ok(())
 }
 
+// Words, and whether FROM is standard input and TO standard output.
+type Ends<'a> = (&'a str, bool, bool);
+
+const ENDS: &[Ends<'static>] = &[
+    ("serve|s|-|-", true, true),
+    ("serve|s|-|t", true, false),
+    ("serve|s|f|-", false, true),
+    ("serve|s|./-|--", false, false),
+    ("help|-|-", false, false),
+    ("verify|s|k|-|-|-|3|inner", false, false),
+];
+
+fn check_ends(rt: &impl Abort, alloc: Global, rows: &[Ends]) -> Result<(), Fail> {
+    for &(name, from, to) in rows {
+        let words = words(alloc, name)?;
+        let plan = ports(&words, &read_words(&words)?);
+        let is_standard = (plan.from == Opening::Standard, plan.to == Opening::Standard);
+        Case { name, number: 0 }
+            .holds(is_standard == (from, to))
+            .expect(rt, "a case");
+    }
+    Ok(())
+}
+
 #[test]
 fn opens_what_a_command_names(rt: HostRuntime) -> Result<(), Fail> {
     check_files(&rt, rt.alloc(), FILES)?;
+    check_ends(&rt, rt.alloc(), ENDS)?;
     check_made(&rt, rt.alloc(), MADE)
 }

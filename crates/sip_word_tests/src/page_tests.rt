@@ -64,6 +64,7 @@ const EXAMPLES: &[&str] = &[
     "gen 7 100000 20",
     "lines log.stream 20",
     "widen log.stream 20",
+    "serve text:web.log - -",
 ];
 
 fn check_examples(rt: &impl Abort, alloc: Global, examples: &[&str]) -> Result<(), Fail> {

@@ -2,9 +2,10 @@
 
 use crate::page_tests::words_between;
 use sip_advice::{
-    AUDIT_PART, CONVERT_PART, GEN_PART, HELP, HELP_PART, HELPLOOK_PART, HELPMOM_PART, LINES_PART,
-    LOOKUP_PART, MOMENTS_PART, PANEL_PART, PLAY_PART, SHOW_PART, VERIFY_PART, VERSION, WIDEN_PART,
-    page_of, page_without_file,
+    AUDIT_PART, BEGIN_PART, CONVERT_PART, GEN_PART, HELP, HELP_PART, HELPLOOK_PART, HELPMOM_PART,
+    LINES_PART, LOOKUP_PART, MERGE_PART, MOMENTS_PART, PANEL_PART, PLAY_PART, SEATS_PART,
+    SERVE_PART, SHOW_PART, VERIFY_PART, VERSION, WATCH_PART, WIDEN_PART, page_of,
+    page_without_file,
 };
 use sip_command_tests::case::Case;
 use std::alloc::Global;
@@ -39,6 +40,9 @@ const PAGES: &[Asked<'static>] = &[
     ("helplook|--help|to", None),
     ("helpmom|-h|to", None),
     ("lookups|--help", None),
+    ("seat|--help", None),
+    ("begin|--help|1", None),
+    ("merge|-V", None),
 ];
 
 // Words for a part. The texts of a test are checked together, and so many stand in one of their
@@ -70,6 +74,20 @@ const PARTS: &[Asked<'static>] = &[
     ("widen|-h", Some(WIDEN_PART)),
 ];
 
+// The same of the commands that keep a sketch, and of the helper with a file.
+const SKETCH_PARTS: &[Asked<'static>] = &[
+    ("begin|--help", Some(BEGIN_PART)),
+    ("begin|-h", Some(BEGIN_PART)),
+    ("watch|--help", Some(WATCH_PART)),
+    ("watch|-h", Some(WATCH_PART)),
+    ("merge|--help", Some(MERGE_PART)),
+    ("merge|-h", Some(MERGE_PART)),
+    ("seats|--help", Some(SEATS_PART)),
+    ("seats|-h", Some(SEATS_PART)),
+    ("serve|--help", Some(SERVE_PART)),
+    ("serve|-h", Some(SERVE_PART)),
+];
+
 // Words for a part that is printed where no file has that name, and words for none.
 const WITHOUT_FILE: &[Asked<'static>] = &[
     ("show|--help", Some(SHOW_PART)),
@@ -78,6 +96,8 @@ const WITHOUT_FILE: &[Asked<'static>] = &[
     ("convert|-h", Some(CONVERT_PART)),
     ("verify|--help", None),
     ("help|-h", None),
+    ("seats|--help", None),
+    ("serve|--help", None),
     ("show|--version", None),
     ("show|--Help", None),
     ("show|--help|x", None),
@@ -175,6 +195,33 @@ const SAID: &[&str] = &[
     "\n  Root ",
 ];
 
+// The same of sketches, and of the helper with a file.
+const SAID_OF_SKETCHES: &[&str] = &[
+    BEGIN_PART,
+    WATCH_PART,
+    MERGE_PART,
+    SEATS_PART,
+    SERVE_PART,
+    "\n  sip begin SKETCH SEED DEPTH PART/PARTS SEATS..\n",
+    "\n  sip watch SKETCH STORED AT EVERY\n",
+    "\n  sip merge SKETCH PART..\n",
+    "\n  sip seats SKETCH\n",
+    "\n  sip serve STORED FROM TO\n",
+    "\n  sip: bad sketch at offset N, sip: bad part K at offset N\n",
+    "\n  sip: sketch exists\n",
+    "\n  sip: bad start, sketch has N records, sip: bad start, sketch is a sum\n",
+    "\n  sip: stream ends at record N\n",
+    "\n  sip: part K: WHY\n",
+    "\n  sip: sketch is busy\n",
+    "\n      Shape ",
+    "\n      Whole ",
+    "\n      UsedSeat ",
+    "\n      NotNext ",
+    "\n      Heavy(S) ",
+    "\n      Missing ",
+    "\n      Fewer ",
+];
+
 fn check_said(rt: &impl Abort, said: &[&str]) {
     for &name in said {
         Case { name, number: 0 }
@@ -194,6 +241,11 @@ fn words_ask_for_their_part_alone(rt: HostRuntime) -> Result<(), Fail> {
 }
 
 #[test]
+fn words_of_a_sketch_ask_for_their_part_alone(rt: HostRuntime) -> Result<(), Fail> {
+    check_asked(&rt, rt.alloc(), SKETCH_PARTS)
+}
+
+#[test]
 fn words_ask_for_their_part_where_no_file_is_named_so(rt: HostRuntime) -> Result<(), Fail> {
     check_without_file(&rt, rt.alloc(), WITHOUT_FILE)
 }
@@ -201,4 +253,9 @@ fn words_ask_for_their_part_where_no_file_is_named_so(rt: HostRuntime) -> Result
 #[test]
 fn the_page_says_all(rt: HostRuntime) {
     check_said(&rt, SAID);
+}
+
+#[test]
+fn the_page_says_all_of_sketches(rt: HostRuntime) {
+    check_said(&rt, SAID_OF_SKETCHES);
 }

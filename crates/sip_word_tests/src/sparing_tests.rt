@@ -1,4 +1,4 @@
-// Which outputs are not opened, by the files that the openings are on.
+// What is not opened, by the files that the openings are on.
 
 use crate::page_tests::words_between;
 use sip_command_tests::case::Case;
@@ -61,5 +61,51 @@ fn an_output_that_is_another_file_is_left_out(rt: HostRuntime) -> Result<(), Fai
     let words = words_between(rt.alloc(), "verify|s|k|f|t|r|20|inner", '|')?;
     let command = read_words(&words)?;
     check_spared(&rt, &ports(&words, &command), SPARED);
+    Ok(())
+}
+
+// The inodes of STORED, FROM and TO, and whether STORED and TO are left out.
+type Heard = ([u64; 3], bool, bool);
+
+const HEARD: &[Heard] = &[
+    ([1, 2, 3], false, false),
+    ([0, 0, 0], false, false),
+    ([2, 2, 3], true, false),
+    ([2, 2, 2], true, true),
+    ([3, 2, 3], false, true),
+    ([1, 3, 3], false, true),
+];
+
+fn check_heard(rt: &impl Abort, plan: &PortPlan, rows: &[Heard]) {
+    for (index, &([first, from, to], no_first, no_to)) in rows.iter().enumerate() {
+        let spared = plan.sparing(&PlanFiles {
+            first: file(9, first),
+            second: None,
+            from: file(9, from),
+            to: file(9, to),
+            keep: None,
+        });
+        let want = PortPlan {
+            first: if no_first {
+                Opening::Spared
+            } else {
+                plan.first
+            },
+            to: if no_to { Opening::Spared } else { plan.to },
+            ..*plan
+        };
+        let case = Case {
+            name: "what is left out of a helper",
+            number: index as u64,
+        };
+        case.holds(spared == want).expect(rt, "a case");
+    }
+}
+
+#[test]
+fn a_stream_that_brings_the_talk_is_left_out(rt: HostRuntime) -> Result<(), Fail> {
+    let words = words_between(rt.alloc(), "serve|s|f|t", '|')?;
+    let command = read_words(&words)?;
+    check_heard(&rt, &ports(&words, &command), HEARD);
     Ok(())
 }

@@ -4,7 +4,7 @@ use Rattle.std.specs.Prelude.{is_some}
 use Rattle.std.specs.List.{slice_get}
 use Rattle.std.specs.Option.{option_copied}
 use Rattle.sip_words.specs.declared.verb.Verb.{Verb}
-use Rattle.sip_words.specs.declared.verb.Verb.TheVariants.{Verify, Help, Audit, Show, Convert, Gen, Lines, Widen, Play, Lookup, HelpLook, Moments, HelpMoments, Panel}
+use Rattle.sip_words.specs.declared.verb.Verb.TheVariants.{Verify, Help, Audit, Show, Convert, Gen, Lines, Widen, Play, Lookup, HelpLook, Moments, HelpMoments, Panel, Serve}
 use Rattle.sip_words.specs.Verbs.{verb_word}
 use Rattle.sip_words.specs.Words.{word, IsRefusedAt}
 use Rattle.sip_words.proofs.Beginning.{refused_verb}
@@ -34,6 +34,7 @@ no_verb w HelpLook dash = λ e. let h : get_or w 0 0 ≡ 104 = ap (λ v. get_or 
 no_verb w Moments dash = λ e. let h : get_or w 0 0 ≡ 109 = ap (λ v. get_or v 0 0) e in omega arith
 no_verb w HelpMoments dash = λ e. let h : get_or w 0 0 ≡ 104 = ap (λ v. get_or v 0 0) e in omega arith
 no_verb w Panel dash = λ e. let h : get_or w 0 0 ≡ 112 = ap (λ v. get_or v 0 0) e in omega arith
+no_verb w Serve dash = λ e. let h : get_or w 0 0 ≡ 115 = ap (λ v. get_or v 0 0) e in omega arith
 
 -- one word that begins with a dash is refused at once
 pub refused_alone : (words : List (List ℕ)) (w : List ℕ) → words ≡ w ∷ [] → get_or w 0 0 ≡ 45 → IsRefusedAt words 0

@@ -15,7 +15,7 @@ use Rattle.sip_words.specs.declared.helper_name.HelperName.TheVariants.{Mute}
 use Rattle.sip_words.specs.declared.shape.Shape.TheVariants.{Name}
 use Rattle.sip_words.specs.declared.stream.Stream.TheVariants as stream
 use Rattle.sip_words.specs.declared.verb.Verb.{Verb}
-use Rattle.sip_words.specs.declared.verb.Verb.TheVariants.{Verify, Help, Audit, Show, Convert, Gen, Lines, Widen, Play, Lookup, HelpLook, Moments, HelpMoments, Panel}
+use Rattle.sip_words.specs.declared.verb.Verb.TheVariants.{Verify, Help, Audit, Show, Convert, Gen, Lines, Widen, Play, Lookup, HelpLook, Moments, HelpMoments, Panel, Serve}
 use Rattle.sip_moments.specs.Manner.{moment_word}
 use Rattle.sip_words.specs.Shapes.{IsOf, IsDepth}
 use Rattle.sip_words.specs.Verbs.{verb_word, shapes, depth_at, least_asked, most_asked}
@@ -42,6 +42,7 @@ examples HelpLook = codes "helplook" ∷ codes "f" ∷ codes "t" ∷ []
 examples Moments = codes "moments" ∷ codes "s" ∷ codes "s" ∷ codes "f" ∷ codes "t" ∷ decimal 1 ∷ moment_word example_moment ∷ []
 examples HelpMoments = codes "helpmom" ∷ codes "f" ∷ codes "t" ∷ []
 examples Panel = codes "panel" ∷ codes "s" ∷ codes "s" ∷ codes "mute" ∷ decimal 1 ∷ query_word (Sub 0 0) ∷ []
+examples Serve = codes "serve" ∷ codes "s" ∷ codes "f" ∷ codes "t" ∷ []
 
 -- they are as many as there have to be
 pub examples_long : (verb : Verb) → length (examples verb) ≡ 1 + length (shapes verb) + least_asked verb
@@ -59,6 +60,7 @@ examples_long HelpLook = refl
 examples_long Moments = refl
 examples_long HelpMoments = refl
 examples_long Panel = refl
+examples_long Serve = refl
 
 -- each has its shape
 pub examples_fit : (verb : Verb) (n : ℕ) → n < length (shapes verb) → IsOf (get_or (shapes verb) n Name) (word (examples verb) (n + 1))
@@ -118,6 +120,10 @@ examples_fit Panel (suc zero) h = λ e. cc
 examples_fit Panel (suc (suc zero)) h = (Mute ∷ [], (omega arith, refl))
 examples_fit Panel (suc (suc (suc zero))) h = (1, (omega arith, omega arith, refl))
 examples_fit Panel (suc (suc (suc (suc n)))) h = absurd (omega arith)
+examples_fit Serve zero h = (Binary, (λ e. cc, refl, refl, refl))
+examples_fit Serve (suc zero) h = λ e. cc
+examples_fit Serve (suc (suc zero)) h = λ e. cc
+examples_fit Serve (suc (suc (suc n))) h = absurd (omega arith)
 
 -- the example asks something at each depth
 pub example_asks : (verb : Verb) (n d : ℕ) → length (shapes verb) < n → n < length (examples verb) → AsksOf verb d (word (examples verb) n)
@@ -135,6 +141,7 @@ example_asks HelpLook n d low high = absurd (omega arith)
 example_asks Moments n d low high = let one : n ≡ 6 = omega arith in rw one (example_moment, (record { least = omega arith; most = omega arith }, refl))
 example_asks HelpMoments n d low high = absurd (omega arith)
 example_asks Panel n d low high = let one : n ≡ 5 = omega arith in let item = pow_pos d in rw one (Sub 0 0, (refl, (omega arith, omega arith), refl))
+example_asks Serve n d low high = absurd (omega arith)
 
 -- a verb that asks something has a depth before it
 pub depth_shape : (verb : Verb) (n : ℕ) → length (shapes verb) < n → n < 1 + length (shapes verb) + most_asked verb → (words : List (List ℕ)) → IsOf (get_or (shapes verb) (length (shapes verb) - 1) Name) (word words (depth_at verb)) → (d : ℕ) × IsDepth d (word words (depth_at verb))
@@ -152,6 +159,7 @@ depth_shape HelpLook n low high words is = absurd (omega arith)
 depth_shape Moments n low high words is = is
 depth_shape HelpMoments n low high words is = absurd (omega arith)
 depth_shape Panel n low high words is = is
+depth_shape Serve n low high words is = absurd (omega arith)
 
 -- each verb has words behind it
 pub has_shapes : (verb : Verb) → 1 ≤ length (shapes verb)
@@ -169,6 +177,7 @@ has_shapes HelpLook = omega arith
 has_shapes Moments = omega arith
 has_shapes HelpMoments = omega arith
 has_shapes Panel = omega arith
+has_shapes Serve = omega arith
 
 pub least_below_most : (verb : Verb) → least_asked verb ≤ most_asked verb
 least_below_most Verify = omega arith
@@ -185,6 +194,7 @@ least_below_most HelpLook = omega arith
 least_below_most Moments = omega arith
 least_below_most HelpMoments = omega arith
 least_below_most Panel = omega arith
+least_below_most Serve = omega arith
 
 -- the first n words are those of a command of this verb, which is not yet too long
 pub record Begun (verb : Verb) (words : List (List ℕ)) (n : ℕ) : Type 0 where
@@ -306,7 +316,7 @@ lettered w =
     if first == 108 then (if get_or w 1 0 == 111 then Lookup else Lines) else (
     if first == 109 then Moments else (
     if first == 112 then (if get_or w 1 0 == 97 then Panel else Play) else (
-    if first == 115 then Show else (
+    if first == 115 then (if get_or w 1 0 == 101 then Serve else Show) else (
     if first == 97 then Audit else (
     if first == 99 then Convert else Widen))))))))
 
@@ -325,6 +335,7 @@ lettered_word HelpLook = refl
 lettered_word Moments = refl
 lettered_word HelpMoments = refl
 lettered_word Panel = refl
+lettered_word Serve = refl
 
 -- one word has one verb
 pub verb_once : (verb other : Verb) → verb_word verb ≡ verb_word other → verb ≡ other

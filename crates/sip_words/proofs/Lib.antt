@@ -12,3 +12,4 @@ pub mod Getting
 pub mod Alone
 pub mod Behind
 pub mod NamedPorts
+pub mod Spared

@@ -3,7 +3,7 @@ use Rattle.std.proofs.Common.{◌≡◌, ℕ, ◌≤◌, List, ap, refl, ◌∙�
 use Rattle.sip_words.specs.declared.command.Command.{Command}
 use Rattle.sip_words.specs.declared.command.Command.TheVariants as command
 use Rattle.sip_words.specs.declared.plan.Opening.{Opening}
-use Rattle.sip_words.specs.declared.plan.Opening.TheVariants.{Nothing, Spared, Path, Made}
+use Rattle.sip_words.specs.declared.plan.Opening.TheVariants.{Nothing, Standard, Spared, Path, Made}
 use Rattle.sip_words.specs.declared.plan.PortPlan.{PortPlan}
 use Rattle.sip_words.specs.declared.stream.Stream.{Stream}
 use Rattle.sip_words.specs.declared.stream.Stream.TheVariants as stream
@@ -17,6 +17,7 @@ use Rattle.sip_stream.specs.Made.{most_made}
 -- how many records an opening has
 abbrev pub count_of : Opening → ℕ
 count_of Nothing = 0
+count_of Standard = 0
 count_of Spared = 0
 count_of (Path _ _) = 0
 count_of (Made _ count _) = count
@@ -82,6 +83,8 @@ first_counted words (command.Panel task names) plan (s, named, is) =
     let same : count_of plan.first ≡ count_of (opening_of s task.depth) = ap (λ (p : PortPlan). count_of p.first) is in
     let few = stream_counted s (word words 1) task.depth named in
     omega arith
+first_counted words (command.Serve form) plan (from, from_is, to, to_is, is) =
+    let same : count_of plan.first ≡ 0 = ap (λ (p : PortPlan). count_of p.first) is ∙ stored_counted form in omega arith
 
 pub opens_counted : (words : List (List ℕ)) (c : Command) (plan : PortPlan) → Opens words c plan → (number count depth : ℕ) → plan.first ≡ Made number count depth → count ≤ most_made
 opens_counted words c plan opens number count depth is =

@@ -7,13 +7,13 @@ use Rattle.std.proofs.lemmas.Str.{IsCharBoundary-after_ascii}
 use Rattle.sip_words.specs.declared.command.Command.{Command}
 use Rattle.sip_words.specs.declared.command.Command.TheVariants as command
 use Rattle.sip_words.specs.declared.plan.Opening.{Opening}
-use Rattle.sip_words.specs.declared.plan.Opening.TheVariants.{Path}
+use Rattle.sip_words.specs.declared.plan.Opening.TheVariants.{Nothing, Standard, Path}
 use Rattle.sip_words.specs.declared.plan.PortPlan.{PortPlan}
 use Rattle.sip_words.specs.declared.stream.Stream.{Stream}
 use Rattle.sip_words.specs.declared.stream.Stream.TheVariants as stream
 use Rattle.sip_stream.specs.declared.form.Form.{Form}
 use Rattle.sip_stream.specs.declared.form.Form.TheVariants.{Binary, Text, Wide}
-use Rattle.sip_words.specs.Plan.{HasName, HaveNames, IsMarked, IsRecord, Opens, OpensUnkept, help_ports, opening_of, source_ports, stored_opening, transcript_ports}
+use Rattle.sip_words.specs.Plan.{HasName, HaveNames, IsMarked, IsUnlessDash, Opens, OpensUnkept, help_ports, opening_of, source_ports, stored_opening, transcript_ports}
 use Rattle.sip_words.specs.Shapes.{IsStoredWord, IsStreamWord}
 use Rattle.sip_words.specs.Words.{word, Spells}
 
@@ -34,10 +34,10 @@ stored_named words Binary more names = (more, inl refl)
 stored_named words Text more (path, some, is) = (more, inr (refl, (path, inl is)))
 stored_named words Wide more (path, some, is) = (more, inr (refl, (path, inr is)))
 
--- so does that of the file that keeps a transcript
-record_named : (words : List (List ℕ)) (n : ℕ) (keep : Opening) → n < length words → IsRecord (word words n) n keep → HasName words keep
-record_named words n keep more (inl (none, is)) = subst (HasName words) (sym is) tt
-record_named words n keep more (inr (some, is)) = subst (HasName words) (sym is) (file_named words n more)
+-- so does that of a file whose word may be a dash, where nothing is named by that
+dashed_named : (words : List (List ℕ)) (dash : Opening) (n : ℕ) (is : Opening) → HasName words dash → n < length words → IsUnlessDash dash (word words n) n is → HasName words is
+dashed_named words dash n is has more (inl (none, same)) = subst (HasName words) (sym same) has
+dashed_named words dash n is has more (inr (some, same)) = subst (HasName words) (sym same) (file_named words n more)
 
 -- so does that of the source of a copy
 source_named : (words : List (List ℕ)) (s : Stream) (depth : ℕ) (plan : PortPlan) → 1 < length words → IsStreamWord s (word words 1) → plan ≡ source_ports (opening_of s depth) → HaveNames words plan
@@ -88,7 +88,7 @@ opens_named words (command.Verify task) plan spells (s, names, keep, record_is, 
       second = file_named words 2 (omega arith);
       from = file_named words 3 (omega arith);
       to = file_named words 4 (omega arith);
-      keep = record_named words 5 keep (omega arith) record_is;
+      keep = dashed_named words Nothing 5 keep tt (omega arith) record_is;
     })
 opens_named words command.Help plan spells is =
     let least = spells.least in help_named words plan (omega arith) is
@@ -118,7 +118,7 @@ opens_named words (command.Play task name) plan spells (s, names, keep, record_i
       second = file_named words 2 (omega arith);
       from = tt;
       to = tt;
-      keep = record_named words 4 keep (omega arith) record_is;
+      keep = dashed_named words Nothing 4 keep tt (omega arith) record_is;
     })
 opens_named words (command.Lookup task) plan spells opens =
     let least = spells.0.least in unkept_named words task.depth plan (omega arith) opens
@@ -135,6 +135,15 @@ opens_named words (command.Panel task names) plan spells (s, named, is) =
       second = file_named words 2 (omega arith);
       from = tt;
       to = tt;
+      keep = tt;
+    })
+opens_named words (command.Serve form) plan spells (from, from_is, to, to_is, is) =
+    let least = spells.0.least in
+    subst (HaveNames words) (sym is) (record {
+      first = stored_named words form (omega arith) spells.1;
+      second = tt;
+      from = dashed_named words Standard 2 from tt (omega arith) from_is;
+      to = dashed_named words Standard 3 to tt (omega arith) to_is;
       keep = tt;
     })
 

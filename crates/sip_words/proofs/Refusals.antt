@@ -69,6 +69,7 @@ verb_of command.HelpLook = verb.HelpLook
 verb_of (command.Moments task) = verb.Moments
 verb_of command.HelpMoments = verb.HelpMoments
 verb_of (command.Panel task names) = verb.Panel
+verb_of (command.Serve form) = verb.Serve
 
 -- the words of a command are whole
 pub whole_of : (words : List (List ℕ)) (c : Command) → Spells words c → IsCommandOf (verb_of c) words
@@ -86,6 +87,7 @@ whole_of words command.HelpLook s = s
 whole_of words (command.Moments task) s = s.0
 whole_of words command.HelpMoments s = s
 whole_of words (command.Panel task names) s = s.0
+whole_of words (command.Serve form) s = s.0
 
 -- and are refused at no number
 pub spelled_not_refused : (words : List (List ℕ)) (c : Command) (n : ℕ) → Spells words c → IsRefusedAt words n → ⊥
@@ -177,4 +179,5 @@ command_once words (command.Panel task names) (command.Panel other called) s t =
     let same = helpers_once (word words 3) names.items called.items s.2 t.2 in
     let all : names ≡ called = ap (λ items. record { items = items }) same in
     rw (one, all) refl
+command_once words (command.Serve f) (command.Serve g) s t = ap command.Serve (stored_once f g (word words 1) s.1 t.1)
 command_once words c d s t = absurd (let same = verbs_agree words c d s t in cc)

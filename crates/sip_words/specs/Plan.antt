@@ -6,7 +6,7 @@ use Rattle.std.specs.Option.{option_map}
 use Rattle.sip_words.specs.declared.command.Command.{Command}
 use Rattle.sip_words.specs.declared.command.Command.TheVariants as command
 use Rattle.sip_words.specs.declared.plan.Opening.{Opening}
-use Rattle.sip_words.specs.declared.plan.Opening.TheVariants.{Nothing, Spared, Path, Made}
+use Rattle.sip_words.specs.declared.plan.Opening.TheVariants.{Nothing, Standard, Spared, Path, Made}
 use Rattle.sip_words.specs.declared.plan.PortPlan.{PortPlan}
 use Rattle.sip_words.specs.declared.stream.Stream.{Stream}
 use Rattle.sip_words.specs.declared.stream.Stream.TheVariants as stream
@@ -44,11 +44,20 @@ abbrev pub verify_ports : Opening → Opening → PortPlan
 verify_ports first keep =
     record { first = first; second = Path 2 0; from = Path 3 0; to = Path 4 0; keep = keep }
 
--- What keeps the transcript where RECORD is this word, which has this number: a file of that name,
--- and nothing where it is `-`.
+-- What is opened where this word, which has this number, names a file or is `-`: the file of that
+-- name, and where it is `-` what that stands for.
+abbrev pub IsUnlessDash : Opening → List ℕ → ℕ → Opening → Type 0
+IsUnlessDash dash word n is =
+    ((word ≡ codes "-") × (is ≡ dash)) ⊎ ((word ≢ codes "-") × (is ≡ Path n 0))
+
+-- What keeps the transcript where RECORD is this word: nothing where it is `-`.
 abbrev pub IsRecord : List ℕ → ℕ → Opening → Type 0
-IsRecord word n keep =
-    ((word ≡ codes "-") × (keep ≡ Nothing)) ⊎ ((word ≢ codes "-") × (keep ≡ Path n 0))
+IsRecord = IsUnlessDash Nothing
+
+-- What an end of a link is opened on where FROM or TO is this word: standard input or standard
+-- output where it is `-`.
+abbrev pub IsEnd : List ℕ → ℕ → Opening → Type 0
+IsEnd = IsUnlessDash Standard
 
 -- play STREAM SEED HELPER RECORD DEPTH QUERY.., whose link is to a helper in the program, and
 -- panel STREAM SEED HELPERS DEPTH QUERY.., which keeps nothing
@@ -58,6 +67,10 @@ play_ports first keep = record no_ports { first = first; second = Path 2 0; keep
 -- help FROM TO, helplook FROM TO and helpmom FROM TO
 abbrev pub help_ports : PortPlan
 help_ports = record no_ports { from = Path 1 0; to = Path 2 0 }
+
+-- serve STORED FROM TO
+abbrev pub serve_ports : Opening → Opening → Opening → PortPlan
+serve_ports first from to = record no_ports { first = first; from = from; to = to }
 
 -- audit STORED TRANSCRIPT
 abbrev pub audit_ports : Opening → PortPlan
@@ -102,11 +115,15 @@ Opens words command.HelpMoments plan = plan ≡ help_ports
 Opens words (command.Panel task names) plan =
     (s : Stream) × IsStreamWord s (word words 1)
     × (plan ≡ play_ports (opening_of s task.depth) Nothing)
+Opens words (command.Serve form) plan =
+    (from : Opening) × IsEnd (word words 2) 2 from × (to : Opening) × IsEnd (word words 3) 3 to
+    × (plan ≡ serve_ports (stored_opening form) from to)
 
 -- the name of the file that an opening is on: a word without its first bytes, if there is such a
 -- word
 abbrev pub file_name : Opening → List (List ℕ) → Option (List ℕ)
 file_name Nothing words = None
+file_name Standard words = None
 file_name Spared words = None
 file_name (Made number count depth) words = None
 file_name (Path n skip) words = option_map (drop skip) (slice_get words n)
@@ -119,6 +136,7 @@ IsMarked word = (path : List ℕ) × ((word ≡ codes "text:" ++ path) ⊎ (word
 -- mark
 abbrev pub HasName : List (List ℕ) → Opening → Type 0
 HasName words Nothing = Unit {0}
+HasName words Standard = Unit {0}
 HasName words Spared = Unit {0}
 HasName words (Made number count depth) = Unit {0}
 HasName words (Path n skip) = (n < length words)

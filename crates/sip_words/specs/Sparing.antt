@@ -1,7 +1,7 @@
--- The outputs of a plan that are not opened, since they are files of another opening.
+-- What of a plan is not opened, since it is a file of another opening.
 use Rattle.std.specs.Prelude.{◌≡◌, ◌⊎◌, List, [], ◌∷◌, Option, Some, None}
 use Rattle.sip_words.specs.declared.plan.Opening.{Opening}
-use Rattle.sip_words.specs.declared.plan.Opening.TheVariants.{Spared}
+use Rattle.sip_words.specs.declared.plan.Opening.TheVariants.{Nothing, Spared}
 use Rattle.sip_words.specs.declared.plan.PortPlan.{PortPlan}
 use Rattle.sip_words.specs.declared.sparing.FileId.{FileId}
 use Rattle.sip_words.specs.declared.sparing.PlanFiles.{PlanFiles}
@@ -16,10 +16,15 @@ IsAmong (Some file) (other ∷ others) = (Some file ≡ other) ⊎ IsAmong (Some
 abbrev pub OpensUnless : Type 0 → Opening → Opening → Type 0
 OpensUnless taken opening is = (taken × (is ≡ Spared)) ⊎ ((taken → ⊥) × (is ≡ opening))
 
--- TO and the file of the transcript are spared where they are an input or each other, and all else
--- is opened as it was to be
+-- The stream of a helper is what FROM is, so that to read it would take the other side's bytes. A
+-- helper has no seed.
+abbrev pub IsHeard : PlanFiles → PortPlan → Type 0
+IsHeard files plan = (plan.second ≡ Nothing) × IsAmong files.first (files.from ∷ [])
+
+-- TO and the file of the transcript are spared where they are an input or each other, so is the
+-- stream of a helper where it is FROM, and all else is opened as it was to be
 pub record Spares (files : PlanFiles) (plan is : PortPlan) : Type 0 where
-  pub first : is.first ≡ plan.first
+  pub first : OpensUnless (IsHeard files plan) plan.first is.first
   pub second : is.second ≡ plan.second
   pub from : is.from ≡ plan.from
   pub to : OpensUnless

@@ -6,7 +6,7 @@ use Rattle.sip_words.specs.declared.shape.Shape.TheVariants.{Number, Depth}
 use Rattle.sip_words.specs.declared.verb.Verb.{Verb}
 use Rattle.sip_words.specs.declared.verb.Verb.TheVariants.{Verify, Help, Audit, Show, Convert, Gen}
 use Rattle.sip_words.specs.declared.verb.Verb.TheVariants.{Lines, Widen, Play, Lookup, HelpLook}
-use Rattle.sip_words.specs.declared.verb.Verb.TheVariants.{Moments, HelpMoments, Panel}
+use Rattle.sip_words.specs.declared.verb.Verb.TheVariants.{Moments, HelpMoments, Panel, Serve}
 use Rattle.sip_stream.specs.Made.{most_made}
 use Rattle.sip_wire.specs.Table.{most_queries}
 
@@ -26,6 +26,7 @@ verb_word HelpLook = codes "helplook"
 verb_word Moments = codes "moments"
 verb_word HelpMoments = codes "helpmom"
 verb_word Panel = codes "panel"
+verb_word Serve = codes "serve"
 
 -- The words behind the verb, and before the queries.
 --   verify STREAM SEED FROM TO RECORD DEPTH
@@ -42,6 +43,7 @@ verb_word Panel = codes "panel"
 --   moments STREAM SEED FROM TO DEPTH
 --   helpmom FROM TO
 --   panel STREAM SEED HELPERS DEPTH
+--   serve STORED FROM TO
 abbrev pub shapes : Verb → List Shape
 shapes Verify = Stream ∷ Name ∷ Name ∷ Name ∷ Name ∷ Depth ∷ []
 shapes Help = Name ∷ Name ∷ []
@@ -57,6 +59,7 @@ shapes HelpLook = Name ∷ Name ∷ []
 shapes Moments = Stream ∷ Name ∷ Name ∷ Name ∷ Depth ∷ []
 shapes HelpMoments = Name ∷ Name ∷ []
 shapes Panel = Stream ∷ Name ∷ Helpers ∷ Depth ∷ []
+shapes Serve = Stored ∷ Name ∷ Name ∷ []
 
 -- The number of the last of these words. Where queries stand behind it, it is their depth.
 abbrev pub depth_at : Verb → ℕ
@@ -78,6 +81,7 @@ least_asked HelpLook = 0
 least_asked Moments = 1
 least_asked HelpMoments = 0
 least_asked Panel = 1
+least_asked Serve = 0
 
 -- and at most so many; behind `panel` as many as have a seat for each helper
 abbrev pub most_asked : Verb → ℕ
@@ -95,3 +99,4 @@ most_asked HelpLook = 0
 most_asked Moments = most_queries
 most_asked HelpMoments = 0
 most_asked Panel = most_queries
+most_asked Serve = 0

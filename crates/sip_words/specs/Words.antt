@@ -95,6 +95,8 @@ Spells words command.HelpMoments = IsCommandOf verb.HelpMoments words
 Spells words (command.Panel task names) =
     IsCommandOf verb.Panel words × SaysTask verb.Panel words task
     × AreHelpers names.items (word words 3)
+Spells words (command.Serve form) =
+    IsCommandOf verb.Serve words × IsStoredWord form (word words 1)
 
 -- some words spell the command
 abbrev pub IsSpelled : Command → Type 0

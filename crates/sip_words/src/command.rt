@@ -6,13 +6,15 @@ ghost use Rattle.arrayvec.specs.ArrayVec.{ArrayVec as AnyNames};
 ghost use Rattle.sip_verifier.specs.declared.task.Task.{Task as AnyTask};
 ghost use Rattle.sip_words.specs.declared.stream.Stream.{Stream as AnyStream};
 ghost use Rattle.sip_words.specs.declared.helper_name.HelperName.{HelperName as AnyName};
-ghost use Rattle.sip_words.specs.Shapes.{AreHelpers, Asks, IsDepth, HasForm, IsStreamWord};
+ghost use Rattle.sip_words.specs.Shapes.{AreHelpers, Asks, IsDepth, HasForm, IsStoredWord};
+ghost use Rattle.sip_words.specs.Shapes.{IsStreamWord};
 ghost use Rattle.sip_words.specs.Shapes.{helper_word};
 ghost use Rattle.sip_words.specs.Words.{IsCommandOf, SaysAll, SaysTask, Spells, IsRefusedAt, word};
 ghost use Rattle.sip_words.specs.Verbs.{verb_word};
 ghost use Rattle.sip_wire.specs.Table.{most_queries};
 ghost use Rattle.sip_words.specs.inside.Progress.{Fitted, HaveShapes, SeatsUpTo, TakesAll};
-ghost use Rattle.sip_words.specs.inside.Progress.{StopsInShapes, TakesLink, TakesName, TakesStream};
+ghost use Rattle.sip_words.specs.inside.Progress.{StopsInShapes, TakesLink, TakesName, TakesStored};
+ghost use Rattle.sip_words.specs.inside.Progress.{TakesStream};
 ghost use Rattle.sip_words.specs.declared.verb.Verb.{Verb as AnyVerb};
 
 use crate::asked::{AskedWord, read_asked};
@@ -63,6 +65,8 @@ pub enum Command {
     /// To verify answers of several helpers in the program: `panel STREAM SEED HELPERS DEPTH
     /// QUERY..`.
     Panel(Task, ArrayVec<HelperName, MOST_QUERIES>),
+    /// To answer questions about a stream that a file holds: `serve STORED FROM TO`.
+    Serve { form: Form },
 }
 
 /// The number of the depth of `verify`.
@@ -291,20 +295,23 @@ fn read_link(words: &Words) -> Result<(), Usage>
     Ok(())
 }
 
-// The rest of `audit`.
-fn read_audit(words: &Words) -> Result<Command, Usage>
-    ensures command { IfOk result (λ command. Fitted Verb.Audit words.now
-        → Spells words.now command) }
-    ensures refused { IfErr result (λ usage. Fitted Verb.Audit words.now
-        → IsRefusedAt words.now usage.word) }
+// The form of the stream that a file holds, which is the rest of `audit` and of `serve`: their
+// words end before this number.
+fn read_stored_form(words: &Words, ends: usize) -> Result<Form, Usage>
+    requires few { ends ≤ 4 }
+    ensures read { IfOk result (λ form. (verb : AnyVerb) → TakesStored verb ends
+        → Fitted verb words.now → IsCommandOf verb words.now
+        × IsStoredWord form (word words.now 1)) }
+    ensures refused { IfErr result (λ usage. (verb : AnyVerb) → TakesStored verb ends
+        → Fitted verb words.now → IsRefusedAt words.now usage.word) }
 {
     let Some(form) = stored_of(words) else {
         return Err(Usage { word: 1 });
     };
-    if has_word(words, 3) {
-        return Err(Usage { word: 3 });
+    if has_word(words, ends) {
+        return Err(Usage { word: ends as u32 });
     }
-    Ok(Command::Audit { form })
+    Ok(form)
 }
 
 // The rest of `show` and of `convert`, which have no more words.
@@ -376,7 +383,10 @@ pub fn read_words(words: &Words) -> Result<Command, Usage>
             read_link(words)?;
             Ok(Command::Help)
         }
-        Verb::Audit => read_audit(words),
+        Verb::Audit => {
+            let form = read_stored_form(words, 3)?;
+            Ok(Command::Audit { form })
+        }
         Verb::Show => {
             read_transcript(words)?;
             Ok(Command::Show)
@@ -406,5 +416,9 @@ pub fn read_words(words: &Words) -> Result<Command, Usage>
             Ok(Command::HelpMoments)
         }
         Verb::Panel => read_panel(words),
+        Verb::Serve => {
+            let form = read_stored_form(words, 4)?;
+            Ok(Command::Serve { form })
+        }
     }
 }

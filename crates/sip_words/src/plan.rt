@@ -2,15 +2,17 @@
 
 ghost use Rattle.std.specs.Prelude.{◌≡◌, ℕ, ◌≤◌, ◌<◌, ◌^◌, Some, IsSome, IfSome, List, decimal};
 ghost use Rattle.std.specs.Prelude.{drop, length};
+ghost use Rattle.sip_stream.specs.declared.form.Form.{Form as AnyForm};
 ghost use Rattle.std.specs.Option.{option_copied};
 ghost use Rattle.sip_verifier.specs.declared.task.Task.{Task as AnyTask};
 ghost use Rattle.sip_lookup.specs.declared.task.LookTask.{LookTask as AnyLookTask};
 ghost use Rattle.sip_moments.specs.declared.task.MomentTask.{MomentTask as AnyMomentTask};
 ghost use Rattle.sip_words.specs.declared.stream.Stream.{Stream as AnyStream};
 ghost use Rattle.sip_stream.specs.Made.{most_made};
-ghost use Rattle.sip_words.specs.Plan.{HasName, HaveNames, IsMarked, IsRecord, Opens, audit_ports};
-ghost use Rattle.sip_words.specs.Plan.{file_name, help_ports, opening_of, play_ports, source_ports};
-ghost use Rattle.sip_words.specs.Plan.{stored_opening, transcript_ports, verify_ports};
+ghost use Rattle.sip_words.specs.Plan.{HasName, HaveNames, IsMarked, IsUnlessDash, Opens};
+ghost use Rattle.sip_words.specs.Plan.{audit_ports, file_name, help_ports, opening_of, play_ports};
+ghost use Rattle.sip_words.specs.Plan.{serve_ports, source_ports, stored_opening};
+ghost use Rattle.sip_words.specs.Plan.{transcript_ports, verify_ports};
 ghost use Rattle.sip_words.specs.Shapes.{IsStreamWord};
 ghost use Rattle.sip_words.specs.Words.{Spells, word, word as word_at};
 
@@ -27,6 +29,8 @@ use sip_vector::Depth;
 pub enum Opening {
     /// On nothing.
     Nothing,
+    /// On standard input, of what brings bytes, or on standard output, of what takes them.
+    Standard,
     /// On a file that must not be emptied, since the command reads it or writes it at another port.
     /// So nothing is opened, and the port's calls fail.
     Spared,
@@ -62,7 +66,7 @@ impl Opening {
         ensures only { IfSome result (λ name. file_name self words.now ≡ Some name.now) }
     {
         match self {
-            Opening::Nothing | Opening::Spared | Opening::Made { .. } => None,
+            Opening::Nothing | Opening::Standard | Opening::Spared | Opening::Made { .. } => None,
             Opening::Path { word, skip } => without(words.get(word)?, skip),
         }
     }
@@ -74,24 +78,25 @@ impl Opening {
         Opening::Path { word, skip: 0 }
     }
 
-    // On the file that a name names where a transcript is to be kept; `-` names none.
-    fn record(name: &str, word: usize) -> Opening
-        ensures { IsRecord name.now word result }
+    // On the file of this name; or so, where the name is `-`.
+    fn unless_dash(dash: Opening, name: &str, word: usize) -> Opening
+        ensures { IsUnlessDash dash name.now word result }
     {
         if name == "-" {
-            Opening::Nothing
+            dash
         } else {
             Opening::file(word)
         }
     }
 
-    // On the file of the transcript that a word names.
-    fn keep(words: &Words, word: usize) -> Opening
-        ensures { word < length words.now → IsRecord (word_at words.now word) word result }
+    // On the file that a word names; or so, where it is `-`.
+    fn named(dash: Opening, words: &Words, word: usize) -> Opening
+        ensures { word < length words.now
+            → IsUnlessDash dash (word_at words.now word) word result }
     {
         match words.get(word) {
-            Some(name) => Opening::record(name, word),
-            None => Opening::Nothing,
+            Some(name) => Opening::unless_dash(dash, name, word),
+            None => dash,
         }
     }
 
@@ -190,11 +195,14 @@ impl PortPlan {
             → result ≡ LinkOrder.FromFirst }
         ensures help_moments { (words : List (List ℕ)) → Opens words Command.HelpMoments self.now
             → result ≡ LinkOrder.FromFirst }
+        ensures serve { (words : List (List ℕ)) (form : AnyForm)
+            → Opens words (Command.Serve form) self.now → result ≡ LinkOrder.FromFirst }
     {
-        // A helper has no stream.
-        match self.first {
+        // A helper has no seed.
+        match self.second {
             Opening::Nothing => LinkOrder::FromFirst,
-            Opening::Spared | Opening::Path { .. } | Opening::Made { .. } => LinkOrder::ToFirst,
+            Opening::Standard | Opening::Spared | Opening::Path { .. } | Opening::Made { .. } =>
+                LinkOrder::ToFirst,
         }
     }
 
@@ -251,6 +259,19 @@ impl PortPlan {
         }
     }
 
+    // The ports of `serve`, whose stream and whose link are opened like this.
+    fn serve(first: Opening, from: Opening, to: Opening) -> PortPlan
+        ensures { result ≡ serve_ports first from to }
+    {
+        PortPlan {
+            first,
+            second: Opening::Nothing,
+            from,
+            to,
+            keep: Opening::Nothing,
+        }
+    }
+
     // The ports of `audit`, whose stream is opened like this.
     fn audit(first: Opening) -> PortPlan
         ensures { result ≡ audit_ports first }
@@ -284,7 +305,7 @@ impl PortPlan {
         match command {
             Command::Verify(task) => {
                 let stream = Opening::stream(words, task.depth);
-                PortPlan::verify(stream, Opening::keep(words, 5))
+                PortPlan::verify(stream, Opening::named(Opening::Nothing, words, 5))
             }
             Command::Help => PortPlan::help(),
             Command::Audit { form } => PortPlan::audit(Opening::stored(*form)),
@@ -298,7 +319,7 @@ impl PortPlan {
             }
             Command::Play(task, _) => {
                 let stream = Opening::stream(words, task.depth);
-                PortPlan::play(stream, Opening::keep(words, 4))
+                PortPlan::play(stream, Opening::named(Opening::Nothing, words, 4))
             }
             Command::Lookup(LookTask { depth, .. }) | Command::Moments(MomentTask { depth, .. }) =>
                 {
@@ -310,6 +331,11 @@ impl PortPlan {
                 let stream = Opening::stream(words, task.depth);
                 PortPlan::play(stream, Opening::Nothing)
             }
+            Command::Serve { form } => {
+                let from = Opening::named(Opening::Standard, words, 2);
+                let to = Opening::named(Opening::Standard, words, 3);
+                PortPlan::serve(Opening::stored(*form), from, to)
+            }
         }
     }
 }
@@ -319,7 +345,8 @@ impl PortPlan {
 /// `lookup` and `moments` the same without a transcript, for `play` without a link, for `panel`
 /// without either, for `help`, `helplook` and `helpmom` the two ends of their link, for `audit` its
 /// stream and the transcript, for `show` and `convert` the transcript, for `gen`, `lines` and
-/// `widen` their stream.
+/// `widen` their stream, for `serve` its stream and the two ends of its link, which may be standard
+/// input and standard output.
 pub fn ports(words: &Words, command: &Command) -> PortPlan
     requires { Spells words.now command.now }
     ensures opens { Opens words.now command.now result }

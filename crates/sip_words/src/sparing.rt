@@ -1,11 +1,11 @@
-//! Which outputs are not opened, since they would empty a file of the same command.
+//! What is not opened, since it is another file of the same command.
 
 ghost use Rattle.std.specs.Prelude.{◌≡◌, ◌↔◌, IsTrue, [], ◌∷◌};
-ghost use Rattle.sip_words.specs.Sparing.{IsAmong, OpensUnless, Spares};
+ghost use Rattle.sip_words.specs.Sparing.{IsAmong, IsHeard, OpensUnless, Spares};
 
 use crate::{Opening, PortPlan};
 
-/// A regular file, which may have several names, as the system tells it from all others.
+/// A file, which may have several names, as the system tells it from all others.
 #[derive(Clone, Copy, Debug, PartialEq, Eq)]
 pub struct FileId {
     /// The number of the device that the file is on.
@@ -14,8 +14,9 @@ pub struct FileId {
     pub inode: u64,
 }
 
-/// What the openings of a plan are on: a regular file, or `None` where there is none yet, or where
-/// it is something else, as a FIFO or a device.
+/// What the openings of a plan are on, where it may not stand at two of them: a regular file, or
+/// what standard input is. `None` where there is none yet, or where it is something else, as a FIFO
+/// or a device.
 #[derive(Clone, Copy, Debug, PartialEq, Eq)]
 pub struct PlanFiles {
     /// The file of the stream.
@@ -43,21 +44,45 @@ fn is_among(file: Option<FileId>, others: [Option<FileId>; 4]) -> bool
     }
 }
 
+// Whether a file is this one.
+fn is_same(file: Option<FileId>, other: Option<FileId>) -> bool
+    ensures { IsTrue result ↔ IsAmong file (other ∷ []) }
+{
+    match file {
+        Some(_) => file == other,
+        None => false,
+    }
+}
+
+// The opening, or none where this holds.
+fn spared_if(spared: bool, opening: Opening) -> Opening
+    ensures { OpensUnless (IsTrue spared) opening result }
+{
+    if spared { Opening::Spared } else { opening }
+}
+
 // The opening, or none where its file is one of these.
 fn unless(opening: Opening, file: Option<FileId>, others: [Option<FileId>; 4]) -> Opening
     ensures { OpensUnless (IsAmong file others) opening result }
 {
-    if is_among(file, others) {
-        Opening::Spared
-    } else {
-        opening
-    }
+    spared_if(is_among(file, others), opening)
 }
 
 impl PortPlan {
-    /// The plan with the outputs left out that are files of another opening: TO and the file of the
-    /// transcript, each of which would be emptied. What these are on is asked before anything is
-    /// opened.
+    // Whether the stream of a helper is what brings the other side's bytes.
+    fn hears_stream(&self, files: &PlanFiles) -> bool
+        ensures { IsTrue result ↔ IsHeard files.now self.now }
+    {
+        match self.second {
+            Opening::Nothing => is_same(files.first, files.from),
+            Opening::Standard | Opening::Spared | Opening::Path { .. } | Opening::Made { .. } =>
+                false,
+        }
+    }
+
+    /// The plan without what is a file of another opening: TO and the file of the transcript, each
+    /// of which would be emptied, and the stream of a helper that is FROM too. What these are on is
+    /// asked before anything is opened.
     pub fn sparing(&self, files: &PlanFiles) -> PortPlan
         ensures { Spares files.now self.now result }
     {
@@ -69,6 +94,7 @@ impl PortPlan {
             keep,
         } = *files;
         PortPlan {
+            first: spared_if(self.hears_stream(files), self.first),
             to: unless(self.to, to, [first, second, from, keep]),
             keep: unless(self.keep, keep, [first, second, from, to]),
             ..*self

@@ -38,6 +38,8 @@ pub enum Verb {
     HelpMoments,
     /// To verify answers of several helpers in the program.
     Panel,
+    /// To answer questions about a stream that a file holds.
+    Serve,
 }
 
 const VERIFY: [Shape; 6] = [
@@ -99,6 +101,8 @@ const HELP_MOMENTS: [Shape; 2] = [Shape::Name, Shape::Name];
 
 const PANEL: [Shape; 4] = [Shape::Stream, Shape::Name, Shape::Helpers, Shape::Depth];
 
+const SERVE: [Shape; 3] = [Shape::Stored, Shape::Name, Shape::Name];
+
 impl Verb {
     /// The verb that a word is; `None` where it is none.
     pub fn of(word: &str) -> Option<Verb>
@@ -121,6 +125,7 @@ impl Verb {
             "moments" => Some(Verb::Moments),
             "helpmom" => Some(Verb::HelpMoments),
             "panel" => Some(Verb::Panel),
+            "serve" => Some(Verb::Serve),
             _ => None,
         }
     }
@@ -144,6 +149,7 @@ impl Verb {
             Verb::Moments => &MOMENTS,
             Verb::HelpMoments => &HELP_MOMENTS,
             Verb::Panel => &PANEL,
+            Verb::Serve => &SERVE,
         }
     }
 }

@@ -4,7 +4,7 @@ use Rattle.std.specs.Prelude.{Some}
 use Rattle.std.specs.List.{slice_get}
 use Rattle.sip_wire.specs.Table.{most_queries}
 use Rattle.sip_words.specs.declared.shape.Shape.{Shape}
-use Rattle.sip_words.specs.declared.shape.Shape.TheVariants.{Name, Stream, Depth}
+use Rattle.sip_words.specs.declared.shape.Shape.TheVariants.{Name, Stream, Stored, Depth}
 use Rattle.sip_words.specs.declared.verb.Verb.{Verb}
 use Rattle.sip_words.specs.Shapes.{IsOf}
 use Rattle.sip_words.specs.Verbs.{verb_word, shapes, depth_at, least_asked, most_asked}
@@ -37,6 +37,15 @@ pub record TakesName (verb : Verb) : Type 0 where
 -- behind the verb stand the two ends of a link, and no more
 pub record TakesLink (verb : Verb) : Type 0 where
   pub shaped : shapes verb ≡ Name ∷ Name ∷ []
+  pub least : least_asked verb ≡ 0
+  pub most : most_asked verb ≡ 0
+
+-- behind the verb stands a stream that a file holds, the last word of all has the number before
+-- `ends`, and nothing is asked
+pub record TakesStored (verb : Verb) (ends : ℕ) : Type 0 where
+  pub some : 1 ≤ length (shapes verb)
+  pub stored : slice_index_or (shapes verb) 0 Name ≡ Stored
+  pub ends_is : 1 + length (shapes verb) ≡ ends
   pub least : least_asked verb ≡ 0
   pub most : most_asked verb ≡ 0
 

@@ -1,6 +1,6 @@
 use Rattle.std.proofs.Common.{subst}
 use Rattle.std.proofs.lemmas.Result.{err_from_is_err_and}
-use Rattle.sip_words.specs.declared.verb.Verb.TheVariants.{Verify, Audit, Gen, Play, Lookup, Moments, Panel}
+use Rattle.sip_words.specs.declared.verb.Verb.TheVariants.{Verify, Gen, Play, Lookup, Moments, Panel}
 use Rattle.sip_words.specs.inside.Progress.{StopsInShapes}
 use Rattle.sip_words.proofs.Beginning.{refused_verb}
 use Rattle.sip_words.proofs.Stopping.{refused_shape, fitted_by, refused_by}
@@ -20,11 +20,6 @@ pub returns-in-Verify-clause-refused : goal.returns-in-Verify-clause-refused
 returns-in-Verify-clause-refused c =
     let fitted = fitted_by c.in-Some.verb c.args.words.now c.shapes.result.now c.in-Some.ensures c.shapes.ensures c.in_ok-check_shapes.ensures.fitting in
     refused_by Verify c.args.words.now c.read_verify.result c.read_verify.ensures.refused (rw c.in-Verify.is at fitted)
-
-pub returns-in-Audit-clause-refused : goal.returns-in-Audit-clause-refused
-returns-in-Audit-clause-refused c =
-    let fitted = fitted_by c.in-Some.verb c.args.words.now c.shapes.result.now c.in-Some.ensures c.shapes.ensures c.in_ok-check_shapes.ensures.fitting in
-    refused_by Audit c.args.words.now c.read_audit.result c.read_audit.ensures.refused (rw c.in-Audit.is at fitted)
 
 pub returns-in-Gen-clause-refused : goal.returns-in-Gen-clause-refused
 returns-in-Gen-clause-refused c =
