@@ -1,5 +1,5 @@
 -- A talk, turn by turn.
-use Rattle.std.proofs.Common.{◌≡◌, ℕ, ◌+◌, ◌*◌, ◌<◌, ◌≤◌, false, Option, List, [], ◌∷◌, ◌++◌, length, inl, refl, sym, ap, subst, ◌∙◌, arith, append_assoc, append-nil, length-append}
+use Rattle.std.proofs.Common.{◌≡◌, ℕ, ◌+◌, ◌<◌, ◌≤◌, false, Option, List, [], ◌∷◌, ◌++◌, length, inl, refl, sym, ap, subst, ◌∙◌, arith, append_assoc, append-nil, length-append}
 use Rattle.sip_ports.specs.declared.port.TalkEvent.{TalkEvent}
 use Rattle.sip_ports.specs.Ports.{GoesOn, heard, ins, outs}
 use Rattle.sip_ports.proofs.TalkLemmas.{GoesOn-refl, GoesOn-trans, heard-append, heard-ins, heard-outs}
@@ -10,6 +10,7 @@ use Rattle.sip_helper.specs.declared.status.HelpStatus.TheVariants.{OutOfMemory}
 use Rattle.sip_wire.proofs.Longest.{spelling_at_most}
 use Rattle.sip_helper.specs.declared.status.HelpStatus.{HelpStatus}
 use Rattle.sip_helper.specs.inside.Measures.{most_turns}
+use Rattle.sip_helper.specs.UnderWay.{UnderWay}
 use Rattle.sip_helper.specs.OneTurn.{StopsTurn, Taken}
 use Rattle.sip_helper.specs.Rules.{AreTurnsBy, EndsAs, IsTurnBy, TurnRules, ServesBy, ServesOn, Turn, after_turn_by, heard_by, state_after_by, turn_talk_by, turns_talk_by}
 
@@ -37,16 +38,6 @@ module _ {S : Type 0} (r : TurnRules S) where
       ∙ append-nil (spelling (r.version s) t.message)
 
 -- ---- how far a talk is
-
--- the turns so far, none of them a farewell, and the room that is left for the offset
-pub record UnderWay {S : Type 0} (r : TurnRules S) (left : S → ℕ) (first : S) (before : ℕ) (start now : Option (List TalkEvent)) (s : S) (offset : ℕ) : Type 0 where
-  pub turns : List Turn
-  pub are : AreTurnsBy r first turns
-  pub state : s ≡ state_after_by r first turns
-  pub going : r.is_done s ≡ false
-  pub talk : GoesOn start now (turns_talk_by r first turns)
-  pub at : offset ≡ before + length (heard (turns_talk_by r first turns))
-  pub room : offset + longest_frame * left s ≤ before + longest_frame * most_turns
 
 module _ {S : Type 0} (r : TurnRules S) (left : S → ℕ) (first : S) (before : ℕ) (start : Option (List TalkEvent)) where
   pub begins : r.is_done first ≡ false → left first ≤ most_turns → UnderWay r left first before start start first before

@@ -1,5 +1,5 @@
 -- How one turn ends.
-use Rattle.std.proofs.Common.{◌≡◌, ℕ, ◌+◌, Bool, true, false, not, ◌||◌, nat_le, if◌then◌else◌, Option, Some, None, List, [], ◌++◌, length, Result, Ok, Err, inl, inr, refl, sym, ap, subst, ◌∙◌, append-nil}
+use Rattle.std.proofs.Common.{◌≡◌, ◌⊎◌, ℕ, ◌+◌, Bool, true, false, not, ◌||◌, nat_le, if◌then◌else◌, Option, Some, None, List, [], ◌++◌, length, Result, Ok, Err, inl, inr, refl, sym, ap, subst, ◌∙◌, append-nil}
 use Rattle.std.specs.Prelude.{IsOk, IsTrue, OnOk, is_err}
 use Rattle.std.specs.Option.{option_and_then}
 use Rattle.std.specs.List.{flat_map}
@@ -7,7 +7,7 @@ use Rattle.std.proofs.lemmas.Bool.{both_ways, not-false}
 use Rattle.sip_ports.specs.declared.port.PortStop.{PortStop}
 use Rattle.sip_ports.specs.declared.port.PortStop.TheVariants as stops
 use Rattle.sip_ports.specs.declared.port.TalkEvent.{TalkEvent}
-use Rattle.sip_ports.specs.Ports.{GoesOn, SendsWhole, Rose, ins, outs}
+use Rattle.sip_ports.specs.Ports.{GoesOn, SendsWhole, Rose, ins}
 use Rattle.sip_ports.proofs.TalkLemmas.{GoesOn-trans}
 use Rattle.sip_wire.specs.declared.kind.Place.{Place}
 use Rattle.sip_wire.specs.declared.message.Message.{Message}
@@ -19,10 +19,10 @@ use Rattle.sip_wire.specs.Decoding.{Decodes}
 use Rattle.sip_wire.specs.Faults.{IsOfBytes}
 use Rattle.sip_wire.specs.Reading.{read_frame}
 use Rattle.sip_wire.specs.Spelling.{spelling}
-use Rattle.sip_helper.specs.declared.status.HelpStatus.TheVariants.{Served, BadFrame, PeerFault}
-use Rattle.sip_helper.specs.OneTurn.{StopsTurn, Taken}
-use Rattle.sip_helper.specs.KindRows.{out_of_turn}
-use Rattle.sip_helper.specs.Rules.{IsMessageBy, IsTurnBy, TurnRules, Turn, heard_by}
+use Rattle.sip_helper.specs.declared.status.HelpStatus.{HelpStatus}
+use Rattle.sip_helper.specs.declared.status.HelpStatus.TheVariants.{Served, BadFrame, PeerClosed, PeerFault, OutOfMemory}
+use Rattle.sip_helper.specs.OneTurn.{AnswersTurn, CutsRefusal, CutsReply, StopsTurn, TakesTurn, refusal_by}
+use Rattle.sip_helper.specs.Rules.{IsCutShortBy, IsMessageBy, TurnRules}
 use Rattle.sip_helper.specs.Statuses.{status_of_fault, status_of_stop}
 use Rattle.sip_helper.specs.Turns.{HelperState, OpenQuery, after_answer, after_reply, depth_of, is_refused, owed, owes, reply_to, step}
 
@@ -60,61 +60,55 @@ module _ {S : Type 0} (r : TurnRules S) (s : S) (old mid : Option (List TalkEven
   fault_rose faults.PeerFault at did e = did.answer.1
   fault_rose faults.OutOfMemory at did e = absurd cc
 
-  -- ---- a message came
+-- ---- a message came in a state
 
-  module _ (m : Message) (did : Decodes (r.version s) (r.place s) old mid before now got (Ok m)) where
-    pub came : IsMessageBy r s m
-    came = record { has_spelling = did.answer.has_spelling; to_helper = did.answer.allowed; in_range = did.answer.in_range }
+module _ {S : Type 0} (r : TurnRules S) (s : S) (m : Message) where
+  module _ (old new : Option (List TalkEvent)) (next : S) (at : ℕ) where
+    -- what was under way is cut short
+    cut : (stop : PortStop) → CutsReply r old new s m ⊎ CutsRefusal r old new s m → AnswersTurn r old new s m next at (Err (status_of_stop stop))
+    cut stops.Failed so = so
+    cut stops.OutOfMemory so = so
 
-    pub received : GoesOn old mid (ins (spelling (r.version s) m))
-    received = subst (GoesOn old mid) (append-nil (ins got) ∙ ap ins did.answer.spelled) did.heard
+    -- a part of the refusal went out
+    pub refusal_cut : (stop : PortStop) → r.is_allowed s m ≡ false → SendsWhole {T = Unit {0}} old new (Err stop) (refusal_by r s) → AnswersTurn r old new s m next at (Err (status_of_stop stop))
+    refusal_cut stop out went = cut stop (inr (record { out = out; sent = went.0; short = went.1; talk = went.2 }))
 
-    -- it may not come, and the refusal went out
-    pub refused : (new : Option (List TalkEvent)) (at : ℕ) → r.is_allowed s m ≡ false → GoesOn mid new (outs (spelling (r.version s) (messages.Refuse out_of_turn))) → StopsTurn r old new s at (BadFrame at)
-    refused new at out went = record {
-      rest = ins (spelling (r.version s) m) ++ outs (spelling (r.version s) (messages.Refuse out_of_turn));
-      talk = GoesOn-trans old mid new _ _ received went;
-      ends = (refl, inr (record { message = m; is = came; out = out; said = refl }));
+    -- a part of the reply went out
+    pub reply_cut : (stop : PortStop) → IsTrue (r.is_allowed s m) → (memory : Bool) → SendsWhole {T = Unit {0}} old new (Err stop) (r.owed (r.step s memory m)) → AnswersTurn r old new s m next at (Err (status_of_stop stop))
+    reply_cut stop allowed memory went = cut stop (inl (record { allowed = allowed; refused = memory; sent = went.0; short = went.1; talk = went.2 }))
+
+  -- its bytes came, and then what it leads to was sent
+  module _ (old mid new : Option (List TalkEvent)) (is : IsMessageBy r s m) (received : GoesOn old mid (ins (spelling (r.version s) m))) (next : S) (at : ℕ) (got : List ℕ) (whole : got ≡ spelling (r.version s) m) where
+    then_sent : (events : List TalkEvent) → GoesOn mid new events → GoesOn old new (ins (spelling (r.version s) m) ++ events)
+    then_sent events went = GoesOn-trans old mid new _ events received went
+
+    -- a part of the reply, or of the refusal
+    part_sent : CutsReply r mid new s m ⊎ CutsRefusal r mid new s m → (rest : List TalkEvent) × GoesOn old new rest × IsCutShortBy r s rest
+    part_sent (inl so) = (_, then_sent _ so.talk, inr (inl (record { turn = record { message = m; refused = so.refused }; is = record { message = is; allowed = so.allowed }; sent = so.sent; short = so.short; said = refl })))
+    part_sent (inr so) = (_, then_sent _ so.talk, inr (inr (record { message = m; is = is; out = so.out; sent = so.sent; short = so.short; said = refl })))
+
+    pub turn_taken : (result : Result Unit HelpStatus) → AnswersTurn r mid new s m next at result → TakesTurn r old new s next at got result
+    turn_taken (Ok _) so = record {
+      turn = record { message = m; refused = so.refused };
+      is = record { message = is; allowed = so.allowed };
+      state = so.state;
+      going = so.going;
+      talk = then_sent _ so.sent;
+      whole = whole;
     }
+    turn_taken (Err Served) so = record { rest = _; talk = then_sent [] so.silent; ends = append-nil (ins (spelling (r.version s) m)) ∙ ap (λ (x : Message). ins (spelling (r.version s) x)) so.is }
+    turn_taken (Err (BadFrame offset)) so = record { rest = _; talk = then_sent _ so.1.sent; ends = (so.0, inr (record { message = m; is = is; out = so.1.out; said = refl })) }
+    turn_taken (Err PeerClosed) so = absurd so
+    turn_taken (Err PeerFault) so = let part = part_sent so in record { rest = part.0; talk = part.1; ends = part.2 }
+    turn_taken (Err OutOfMemory) so = let part = part_sent so in record { rest = part.0; talk = part.1; ends = part.2 }
 
-    -- a part of it went out
-    pub refusal_cut : (new : Option (List TalkEvent)) (at : ℕ) (stop : PortStop) → r.is_allowed s m ≡ false → SendsWhole {T = Unit {0}} mid new (Err stop) (spelling (r.version s) (messages.Refuse out_of_turn)) → StopsTurn r old new s at (status_of_stop stop)
-    refusal_cut new at stop out went = by_stop stop
-      where
-        by_stop : (stop : PortStop) → StopsTurn r old new s at (status_of_stop stop)
-        by_stop stops.Failed = record { rest = _; talk = GoesOn-trans old mid new _ _ received went.2; ends = inr (inr (record { message = m; is = came; out = out; sent = went.0; short = went.1; said = refl })) }
-        by_stop stops.OutOfMemory = record { rest = _; talk = GoesOn-trans old mid new _ _ received went.2; ends = inr (inr (record { message = m; is = came; out = out; sent = went.0; short = went.1; said = refl })) }
-
-    -- it was heard
-    module _ (allowed : IsTrue (r.is_allowed s m)) (memory : Bool) where
-      abbrev turn : Turn
-      turn = record { message = m; refused = memory }
-
-      is_turn : IsTurnBy r s turn
-      is_turn = record { message = came; allowed = allowed }
-
-      -- it is a farewell
-      pub farewell : (at : ℕ) → m ≡ r.farewell → StopsTurn r old mid s at Served
-      farewell at bye = record { rest = _; talk = received; ends = ap (λ (x : Message). ins (spelling (r.version s) x)) bye }
-
-      -- its reply was cut short
-      pub reply_cut : (new : Option (List TalkEvent)) (at : ℕ) (stop : PortStop) → SendsWhole {T = Unit {0}} mid new (Err stop) (r.owed (heard_by r s turn)) → StopsTurn r old new s at (status_of_stop stop)
-      reply_cut new at stop went = by_stop stop
-        where
-          by_stop : (stop : PortStop) → StopsTurn r old new s at (status_of_stop stop)
-          by_stop stops.Failed = record { rest = _; talk = GoesOn-trans old mid new _ _ received went.2; ends = inr (inl (record { turn = turn; is = is_turn; sent = went.0; short = went.1; said = refl })) }
-          by_stop stops.OutOfMemory = record { rest = _; talk = GoesOn-trans old mid new _ _ received went.2; ends = inr (inl (record { turn = turn; is = is_turn; sent = went.0; short = went.1; said = refl })) }
-
-      -- its reply was given
-      pub given : (new : Option (List TalkEvent)) (next : S) → next ≡ r.after_answer (heard_by r s turn) → r.is_done next ≡ false → GoesOn mid new (outs (r.owed (heard_by r s turn))) → Taken r old new s next got
-      given new next state going went = record {
-        turn = turn;
-        is = is_turn;
-        state = state;
-        going = going;
-        talk = GoesOn-trans old mid new _ _ received went;
-        whole = did.answer.spelled;
-      }
+-- a message that was received in the version of a state, at the place that is awaited
+pub message_came : {S : Type 0} (r : TurnRules S) (s : S) (old mid : Option (List TalkEvent)) (before now : ℕ) (got : List ℕ) (m : Message) → Decodes (r.version s) (r.place s) old mid before now got (Ok m) → IsMessageBy r s m × GoesOn old mid (ins (spelling (r.version s) m)) × (got ≡ spelling (r.version s) m)
+message_came r s old mid before now got m did = (
+  record { has_spelling = did.answer.has_spelling; to_helper = did.answer.allowed; in_range = did.answer.in_range },
+  subst (GoesOn old mid) (append-nil (ins got) ∙ ap ins did.answer.spelled) did.heard,
+  did.answer.spelled,
+)
 
 -- ---- states
 

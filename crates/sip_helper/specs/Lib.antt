@@ -10,5 +10,6 @@ pub mod Vectors
 pub mod SubVectors
 pub mod Sums
 pub mod Turns
+pub mod UnderWay
 pub mod Shown
 pub mod inside

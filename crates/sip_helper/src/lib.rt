@@ -40,7 +40,8 @@
 //! over a [`HelperCore`]: which frame is awaited, which message may come, and what is owed then.
 //! [`talk`] receives the frames, refuses what is out of turn and says how it ended. A talk that
 //! begins by other turns takes these one by one ([`take_turn`]), and goes on from there
-//! ([`talk_on`]).
+//! ([`talk_on`]). Whoever has the messages from elsewhere than a link has each answered alone
+//! ([`answer_turn`]).
 //!
 //! # How a kind is added
 //!
@@ -73,5 +74,5 @@ pub use helper::HelperCore;
 pub use refusal::{WANT_OF_MEMORY, put_refusal};
 pub use serving::serve;
 pub use status::HelpStatus;
-pub use talking::{Helps, take_turn, talk, talk_on};
+pub use talking::{Helps, answer_turn, take_turn, talk, talk_on};
 pub use turn::OutOfTurn;

@@ -4,9 +4,10 @@ ghost use Rattle.std.specs.Prelude.{◌≡◌, ◌⊎◌, ◌<◌, ◌≤◌, Er
 ghost use Rattle.sip_ports.specs.Ports.{HasCause, Lasts, Rose, SendsWhole};
 ghost use Rattle.sip_wire.specs.declared.message.Message.TheVariants as messages;
 ghost use Rattle.sip_wire.specs.Frames.{frame_bytes};
-ghost use Rattle.sip_wire.specs.Spelling.{spelling};
+ghost use Rattle.sip_wire.specs.Spelling.{fits, spelling};
+ghost use Rattle.sip_wire.specs.declared.version.Version.TheVariants.{Two};
 ghost use Rattle.sip_helper.specs.inside.Measures.{most_received, most_turns};
-ghost use Rattle.sip_helper.specs.OneTurn.{TakesTurn};
+ghost use Rattle.sip_helper.specs.OneTurn.{AnswersTurn, TakesTurn};
 ghost use Rattle.sip_helper.specs.Rules.{ServesBy, ServesOn};
 
 use crate::refusal::OUT_OF_TURN;
@@ -97,12 +98,55 @@ pub trait Helps {
 /// Sends the refusal of a message out of turn. It is made in a call of its own, since a message is
 /// as large as the longest frame's rows: the stack has it no longer than that.
 #[inline(never)]
-fn refuse<L: Link>(version: Version, link: &mut L) -> Result<(), PortStop>
-    ensures talk { SendsWhole (L.talk link.old) (L.talk link.new) result
+fn refuse<K: Sink>(version: Version, out: &mut K) -> Result<(), PortStop>
+    ensures talk { SendsWhole (K.talk out.old) (K.talk out.new) result
         (spelling version (messages.Refuse 4)) }
-    ensures cause { HasCause L.faults L.wants L.is_sure link.old link.new result }
+    ensures cause { HasCause K.faults K.wants K.is_sure out.old out.new result }
 {
-    encode(&Message::Refuse { code: OUT_OF_TURN }, version, link)
+    encode(&Message::Refuse { code: OUT_OF_TURN }, version, out)
+}
+
+/// Answers a message that came, wherever it came from: the reply that is owed is sent, or the
+/// refusal of a message out of turn. `offset` is how many bytes of the talk were received before
+/// the message.
+///
+/// # Errors
+///
+/// Why the talk is over: `Served` where the message was the farewell, to which nothing is sent;
+/// `BadFrame` where it was out of turn, once the refusal was sent, which leaves the helper as it
+/// was. The others are those of the sink, which a front of the reply or of the refusal has then
+/// reached that is shorter than it.
+pub fn answer_turn<H: Helps, K: Sink>(
+    helper: &mut H,
+    message: &Message,
+    out: &mut K,
+    offset: u64,
+) -> Result<(), HelpStatus>
+    requires fits { IsTrue (fits Two message.now) }
+    requires live { IsTrue (H.is_live helper.old) }
+    requires going { H.rules.is_done helper.old ≡ false }
+    ensures turn { AnswersTurn H.rules (K.talk out.old) (K.talk out.new) helper.old message.now
+        helper.new offset result }
+    ensures live { OnOk result (IsTrue (H.is_live helper.new)) }
+    ensures fewer { OnOk result (H.turns_left helper.new < H.turns_left helper.old) }
+    ensures cause { result ≡ Err HelpStatus.PeerFault
+        → Rose (K.faults out.old) (K.faults out.new) }
+    ensures memory { result ≡ Err HelpStatus.OutOfMemory
+        → Rose (K.wants out.old) (K.wants out.new) }
+    ensures lasts { Lasts K.faults K.wants K.is_sure out.old out.new }
+{
+    let version = helper.version_due();
+    if helper.take(message).is_err() {
+        refuse(version, out)?;
+        return Err(HelpStatus::BadFrame { offset });
+    }
+    if helper.is_over() {
+        return Err(HelpStatus::Served);
+    }
+    if helper.owes_reply() {
+        helper.send_reply(out)?;
+    }
+    Ok(())
 }
 
 /// Receives one frame, hears its message and sends the reply that is owed. The message of the frame
@@ -136,18 +180,7 @@ pub fn take_turn<H: Helps, L: Link>(
     if let Err(fault) = decode_within(link, place, version, frame) {
         return Err(HelpStatus::of_fault(fault, offset));
     }
-    let message = frame.message();
-    if helper.take(message).is_err() {
-        refuse(version, link)?;
-        return Err(HelpStatus::BadFrame { offset });
-    }
-    if helper.is_over() {
-        return Err(HelpStatus::Served);
-    }
-    if helper.owes_reply() {
-        helper.send_reply(link)?;
-    }
-    Ok(())
+    answer_turn(helper, frame.message(), link, offset)
 }
 
 /// Goes on with a talk until a farewell, from a state in which it stands: some of it may have been

@@ -1,7 +1,7 @@
 -- The talk is under way, and each turn leaves fewer.
 use Rattle.std.specs.Prelude.{IsTrue}
 use Rattle.sip_ports.specs.Ports.{Lasts}
-use Rattle.sip_helper.proofs.Talks.{UnderWay}
+use Rattle.sip_helper.specs.UnderWay.{UnderWay}
 use Rattle.sip_helper.proofs.talking.talk_on.Given as goal
 
 abbrev pub invariant-loop-status : goal.invariant-loop-status
