@@ -35,6 +35,10 @@ passed test P one number (q ∷ asked) y e =
     let b = bound (test number q) (λ _. all_pass test (suc number) asked) y e in
     All-cons P q asked (one number q b.0 b.1) (passed test P one (suc number) asked y b.2)
 
+-- each of these questions fits
+pub all-fitting : (depth : ℕ) (asked : List Question) → all_pass (fits_at depth) 1 asked ≡ Ok tt → All (λ q. IsTrue (fits depth q)) asked
+all-fitting depth asked e = passed (fits_at depth) (λ q. IsTrue (fits depth q)) (λ number q y. needed (fits depth q) (statuses.Unfit number) y) 1 asked tt e
+
 -- ---- seats
 
 seat-unsigned : (signed : Bool) (why : AskStatus) (r : Result (Option ℕ) AskStatus) (place : Option ℕ)

@@ -5,7 +5,8 @@
 //! answer to a second one on them accepted. So the file with the seat used is stored before a byte
 //! of the question is sent.
 //!
-//! So far the crate says what an ask is, and what holds of it; no call asks yet.
+//! So far the crate says what an ask is, and what holds of it; no call asks yet. [`choose`] says which
+//! seats questions would take.
 //!
 //! # What is proved
 //!
@@ -33,8 +34,10 @@
 //! [`examples`] works out which seats questions take, and the file of a sketch with a used seat.
 #![tactic(auto)]
 
+mod choosing;
 pub mod examples;
 pub mod laws;
 mod status;
 
+pub use choosing::{Places, choose};
 pub use status::{AskPort, AskStatus};
