@@ -45,12 +45,36 @@ def need(holds, reason):
         raise Fault(reason)
 
 
+class OfVectors:
+    """What a verifier keeps for a question, worked out of whole vectors."""
+
+    def __init__(self, both, challenges):
+        self.both, self.challenges = both, challenges
+
+    def root(self):
+        return folds.root(self.both[0], self.challenges)
+
+    def extension(self, side):
+        return folds.extension(self.both[side], self.challenges)
+
+    def root_counted(self, side):
+        return folds.root_counted(self.both[side], self.challenges)
+
+
 def verdict(question, both, depth, challenges, data, at, version):
+    """By whole vectors."""
+    return verdict_by(
+        OfVectors(both, challenges), question, depth, challenges, data, at, version
+    )
+
+
+def verdict_by(kept, question, depth, challenges, data, at, version):
+    """By what was kept for the question."""
     if question.kind in LOOKUPS:
-        return looked(question, both, depth, challenges, data, at, version)
+        return looked(kept, question, depth, challenges, data, at, version)
     link = Link(data, at, version)
     kinds = {"sub": Entries, "heavy": Counted, "share": Counted, "moment": Powers}
-    check = kinds.get(question.kind, Sums)(question, both, depth, challenges)
+    check = kinds.get(question.kind, Sums)(question, kept, depth, challenges)
     asked, ends, said, reason = [], [], None, None
     try:
         for j in range(depth):
@@ -65,7 +89,7 @@ def verdict(question, both, depth, challenges, data, at, version):
     return Verdict(said, len(ends), reason, asked, ends, link.at)
 
 
-def looked(lookup, both, depth, challenges, data, at, version):
+def looked(kept, lookup, depth, challenges, data, at, version):
     """The place, and then the entries among which the one at the place has to be alone."""
     link, asked = Link(data, at, version), [lookup.message()]
     try:
@@ -74,8 +98,8 @@ def looked(lookup, both, depth, challenges, data, at, version):
         need(lookup.may_be_at(place, depth), "BadFound")
     except Fault as fault:
         return Verdict(None, 0, fault.reason, asked, [], link.at)
-    shown = verdict(
-        lookup.shown_by(place, depth), both, depth, challenges, data, link.at, version
+    shown = verdict_by(
+        kept, lookup.shown_by(place, depth), depth, challenges, data, link.at, version
     )
     shown = shown._replace(asked=asked + shown.asked, ends=[link.at, *shown.ends])
     if shown.reason:
@@ -90,9 +114,9 @@ def looked(lookup, both, depth, challenges, data, at, version):
 class Entries:
     """A sub-vector."""
 
-    def __init__(self, question, both, depth, challenges):
+    def __init__(self, question, kept, depth, challenges):
         self.question, self.challenges = question, challenges
-        self.root = folds.root(both[0], challenges)
+        self.root = kept.root()
         self.stated = []
         self.level = {}
 
@@ -128,12 +152,12 @@ class Sums:
 
     place, degree = "Poly", 2
 
-    def __init__(self, question, both, depth, challenges):
+    def __init__(self, question, kept, depth, challenges):
         self.challenges = challenges
-        first = folds.extension(both[0 if question.kind == "inner" else question.side], challenges)
+        first = kept.extension(0 if question.kind == "inner" else question.side)
         second = {
             "f2": lambda: first,
-            "inner": lambda: folds.extension(both[1], challenges),
+            "inner": lambda: kept.extension(1),
             "range": lambda: folds.interval(challenges, question.lo, question.hi),
         }[question.kind]()
         self.product = first * second % P
@@ -159,19 +183,19 @@ class Powers(Sums):
 
     place = "Power"
 
-    def __init__(self, question, both, depth, challenges):
+    def __init__(self, question, kept, depth, challenges):
         self.challenges, self.degree = challenges, question.degree
-        self.product = pow(folds.extension(both[question.side], challenges), self.degree, P)
+        self.product = pow(kept.extension(question.side), self.degree, P)
 
 
 class Counted:
     """Entries of at least a threshold."""
 
-    def __init__(self, question, both, depth, challenges):
+    def __init__(self, question, kept, depth, challenges):
         self.depth, self.challenges = depth, challenges
-        self.threshold = question.threshold(both)
-        self.total = both[question.side].total
-        self.root = folds.root_counted(both[question.side], challenges)
+        self.root = kept.root_counted(question.side)
+        self.total = self.root[1]
+        self.threshold = question.threshold_of(self.total)
         self.most = 2 * (self.total // self.threshold)
         self.known = {}
         self.leaves = []

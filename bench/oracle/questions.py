@@ -50,9 +50,11 @@ class Question(NamedTuple):
         return self.kind in ("heavy", "share")
 
     def threshold(self, both):
+        return self.threshold_of(both[self.side].total)
+
+    def threshold_of(self, total):
         if self.kind == "heavy":
             return self.at_least
-        total = both[self.side].total
         return -(-self.num * total // self.den) if total >= 1 else 1
 
     def is_asked(self, both):

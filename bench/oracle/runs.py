@@ -23,6 +23,7 @@ CODES = {
     "ReadFault": 4, "WriteFault": 4, "PeerFault": 4, "PeerClosed": 4,
     # Those of sketches.
     "BadSketch": 3, "Exists": 3, "BadStart": 3, "Behind": 3, "Unlike": 3, "Busy": 3,
+    "NotWhole": 3, "Unfit": 3, "Signed": 3, "NoSeat": 3, "OutOfStep": 3,
 }  # fmt: skip
 
 

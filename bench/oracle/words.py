@@ -35,11 +35,14 @@ SKETCHES = {
     "seats": ("sketch",),
 }
 STORES = {"serve": ("stored", "from", "to")}
+ASKS = {"ask": ("sketch", "from", "to", "questions")}
 
 # Of how many words a last shape stands for at most, where it is more than one. Words of seats say
 # how many each, and these many are in them all.
 ASKED = ("queries", "lookups", "moments")
-MOST = {**dict.fromkeys(ASKED, QUERIES), "seats": MOST_SEATS, "parts": 1024}
+MOST = {
+    **dict.fromkeys((*ASKED, "questions"), QUERIES), "seats": MOST_SEATS, "parts": 1024,
+}  # fmt: skip
 
 
 class Usage(Exception):
@@ -114,6 +117,11 @@ def question(shape, word, depth):
     return Question(kind, *numbers)
 
 
+def any_question(word):
+    """A question of every kind that fits the greatest depth; None where the word is none."""
+    return next(filter(None, (question(shape, word, DEEPEST) for shape in ASKED)), None)
+
+
 def seats(word, before):
     """The kind of seats that a word says, so many times as it says; None where it says none, or too
     many behind those before."""
@@ -141,6 +149,8 @@ def value(shape, word, said):
         return None if held is None or held.form == "made" else held
     if shape in ASKED:
         return question(shape, word, said["depth"])
+    if shape == "questions":
+        return any_question(word)
     if shape == "helper":
         return word if word in HELPERS else None
     if shape == "seats":

@@ -1,0 +1,6 @@
+pub mod Choosing
+pub mod Counting
+pub mod Examples
+pub mod Marking
+pub mod Runs
+pub mod Turns

@@ -1,0 +1,89 @@
+//! Laws of what an ask does to the file of its sketch, and of how many challenges a helper can win
+//! by. These functions do nothing: each contract is a fact that holds.
+
+ghost use Rattle.std.specs.Prelude.{◌≡◌, ◌≢◌, ℕ, ◌*◌, ◌-◌, ◌^◌, ◌<◌, ◌≤◌, true, List, [], ◌++◌};
+ghost use Rattle.std.specs.Prelude.{length, map, take, flat_map, slice_index_or, All, Contains, Ok};
+ghost use Rattle.std.specs.declared.option.Option.{Option};
+ghost use Rattle.sip_field.specs.Moduli.{m61_modulus};
+ghost use Rattle.sip_counts.specs.Late.{fooled_late, plan_bounds, some_fooled};
+ghost use Rattle.sip_ports.specs.Desk.{IsOfLink, may_hold};
+ghost use Rattle.sip_ports.specs.declared.port.TalkEvent.{TalkEvent};
+ghost use Rattle.sip_vector.specs.declared.update.Update.{Update};
+ghost use Rattle.sip_wire.specs.declared.version.Version.{Version};
+ghost use Rattle.sip_questions.specs.Honest.{answer};
+ghost use Rattle.sip_questions.specs.Questions.{AcceptsOf, Answered, Posed};
+ghost use Rattle.sip_questions.specs.declared.question.Question.{Question};
+ghost use Rattle.sip_sketch.specs.Sketches.{IsSketch, SeatValues, SketchValues};
+ghost use Rattle.sip_sketch.specs.Standing.{Stands};
+ghost use Rattle.sip_ask.specs.Choosing.{choice};
+ghost use Rattle.sip_ask.specs.Counting.{IsCounted, IsSound, LedTo, SeatPlan, challenges_in};
+ghost use Rattle.sip_ask.specs.Counting.{plan_of};
+ghost use Rattle.sip_ask.specs.Marking.{HasUsed, KeepsUsed, is_used_at, mark};
+ghost use Rattle.sip_ask.specs.Runs.{AreRuns, NoSeatTwice, Run};
+ghost use Rattle.sip_ask.specs.Turns.{AreTurns, Turn, places_said, turn_events};
+
+/// A sketch with one more used seat is one that a file can have. Its seats are the same, with their
+/// kinds and their challenges: that one is used, each other one is as it was.
+pub fn a_marked_sketch_is_the_same()
+    ensures is { (s : SketchValues) (place : ℕ) → IsSketch s → IsSketch (mark place s) }
+    ensures keeps { (s : SketchValues) (place : ℕ) → KeepsUsed s (mark place s) }
+    ensures used { (s : SketchValues) (place : ℕ) → place < length s.seats
+        → is_used_at place (mark place s).seats ≡ true }
+    ensures other { (s : SketchValues) (place k : ℕ) (seat : SeatValues) → k ≢ place
+        → slice_index_or (mark place s).seats k seat ≡ slice_index_or s.seats k seat }
+{}
+
+/// A question is said only where no crash can leave its seat unused: wherever a talk is cut off,
+/// each content that the file may have then has used the seats of all turns in which something was
+/// said.
+pub fn said_only_where_used()
+    ensures { (version : Version) (start : Option (List ℕ))
+        (talk opened behind : List TalkEvent) (s : SketchValues) (turns : List Turn)
+        (count place : ℕ) (content : Option (List ℕ)) → IsSketch s
+        → IsOfLink opened → AreTurns version s turns → IsOfLink behind
+        → Contains (places_said (count - length opened) turns) place
+        → Contains (may_hold start
+        (talk ++ take count (opened ++ (flat_map turn_events turns ++ behind)))) content
+        → HasUsed place content }
+{}
+
+/// Over whatever runs that begin a sketch, watch a stream for it, merge its parts and ask it, each
+/// of which may be cut off at any event, no seat serves two questions.
+pub fn no_seat_serves_two_questions()
+    ensures { (start : Option (List ℕ)) (talk : List TalkEvent) (runs : List Run)
+        → AreRuns start talk runs → NoSeatTwice runs }
+{}
+
+/// However helpers reply to the questions of all seats of a sketch, in whatever order these are
+/// asked, some seat has a wrong answer accepted at no more of the vectors of all challenges than
+/// the sum of the seats' bounds, times p^(N - 1), p being 2^61 - 1 and N the number of challenges.
+pub fn few_vectors_mislead_a_sketch()
+    ensures { (depth : ℕ) (plans : List SeatPlan) → 0 < depth → All (IsSound depth) plans
+        → fooled_late m61_modulus depth (map (plan_of depth) plans)
+        ≤ plan_bounds (map (plan_of depth) plans)
+        * m61_modulus ^ (length (map (plan_of depth) plans) * depth - 1) }
+{}
+
+/// Where replies are accepted that state a wrong answer, the challenges of the sketch are such a
+/// vector, whatever the plans of the other seats are.
+pub fn a_wrong_answer_is_counted()
+    ensures { (s : SketchValues) (plans : List SeatPlan) (place : ℕ) (plan : SeatPlan)
+        (seat : SeatValues) (version : Version) (stream : List Update) (q : Posed)
+        (written : Answered)
+        → IsSketch s → place < length s.seats → place < length plans
+        → slice_index_or plans place plan ≡ plan → slice_index_or s.seats place seat ≡ seat
+        → q.block ≡ seat.block → LedTo s.seats place plan version stream q
+        → IsCounted s.depth (record { version = version; stream = stream; question = q.query })
+        → AcceptsOf version s.depth stream q q.query written
+        → written ≢ answer s.depth stream q.query
+        → some_fooled s.depth (map (plan_of s.depth) plans) [] (challenges_in s.seats) ≡ true }
+{}
+
+/// The questions for which a sketch has seats can be counted, whatever the stream is that it stands
+/// for: all that this asks is tested before anything is said.
+pub fn what_is_asked_can_be_counted()
+    ensures { (s : SketchValues) (stream : List Update) (version : Version)
+        (asked : List Question) (places : List (Option ℕ)) → Stands stream s
+        → choice s asked ≡ Ok places → All (λ question. IsCounted s.depth
+        (record { version = version; stream = stream; question = question })) asked }
+{}

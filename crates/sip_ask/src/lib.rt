@@ -1,0 +1,43 @@
+//! Questions that are chosen now, of a stream that went by before.
+//!
+//! A sketch (`sip_sketch`) is what a verifier kept of a stream, in a file. A question takes one of
+//! its seats, and no seat serves two: whoever has seen a question's challenges could make any
+//! answer to a second one on them accepted. So the file with the seat used is stored before a byte
+//! of the question is sent.
+//!
+//! So far the crate says what an ask is, and what holds of it; no call asks yet. [`choose`] says which
+//! seats questions would take.
+//!
+//! # What is proved
+//!
+//! - Whenever a crash comes, each content that the file may have then has used the seats of all
+//!   questions of which a byte was sent ([`laws::said_only_where_used`]).
+//! - Over any runs over one file, each of which may be cut off at any event, no seat serves two
+//!   questions ([`laws::no_seat_serves_two_questions`]).
+//! - Whatever order the seats are used in, and however questions are chosen by what was revealed of
+//!   others, a helper has a wrong answer accepted at few vectors of challenges
+//!   ([`laws::few_vectors_mislead_a_sketch`]), and where it has one the sketch's own challenges are
+//!   one of them ([`laws::a_wrong_answer_is_counted`]). What that asks of the questions is tested
+//!   before anything is said ([`laws::what_is_asked_can_be_counted`]).
+//!
+//! # The definitions to read
+//!
+//! | file of `specs/` | what it defines |
+//! |---|---|
+//! | `Choosing` | which seat each question takes, and why nothing is asked |
+//! | `Marking` | a sketch with used seats, and which contents of the file have a seat used |
+//! | `Turns` | in which order the file and the link are used |
+//! | `Runs` | runs over one file, each cut off somewhere, and that no seat serves two questions |
+//! | `Counting` | what may become of each seat, and which wrong answers are counted |
+//! | `Examples` | what the examples work out |
+//!
+//! [`examples`] works out which seats questions take, and the file of a sketch with a used seat.
+#![tactic(auto)]
+
+mod choosing;
+pub mod examples;
+pub mod laws;
+mod status;
+
+pub use choosing::{Places, choose};
+pub use status::{AskPort, AskStatus};
