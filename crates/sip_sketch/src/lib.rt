@@ -44,6 +44,7 @@
 //! | `Beginnings` | what each ending of [`begin`] says of its desk and its seed |
 //! | `Showing`, `SeatLines` | what each ending of [`seats`] says of its file and its report; the lines |
 //! | `Loaded` | when a file is no sketch, and from which byte on |
+//! | `Marking` | a sketch with seats that questions have used |
 //! | `Watching` | what is read of a stream that is watched, and when the sketch is stored |
 //! | `Risen` | which count of faults rose where a call over files answers that a port failed |
 //! | `Files`, `MemoryFiles` | what is loaded of files that are read whole; what those in memory have |
@@ -65,6 +66,7 @@ mod keeping;
 mod kind;
 pub mod laws;
 mod loading;
+mod marking;
 mod memory_files;
 mod pace;
 mod parts;
