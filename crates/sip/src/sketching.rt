@@ -1,10 +1,10 @@
 //! The commands that keep a sketch, over the files that their words name.
 
-ghost use Rattle.std.specs.Prelude.{◌≡◌, ◌≢◌, ◌×◌, ◌⊎◌, ℕ, IfSome, None};
+ghost use Rattle.std.specs.Prelude.{◌≡◌, ◌⊎◌, IfSome};
 ghost use Rattle.sip_advice.specs.Exit.{code_of};
 ghost use Rattle.sip_keeping.specs.Endings.{code_of_sketch};
 ghost use Rattle.sip_keeping.specs.SketchClause.{Does, Told as AnyTold};
-ghost use Rattle.sip_keeping.specs.Words.{IsRefusedAt, Spells};
+ghost use Rattle.sip_keeping.specs.Words.{Spells};
 ghost use Rattle.sip_sketch.specs.declared.status.SketchStatus.{SketchStatus as AnyStatus};
 ghost use Rattle.sip_verifier.specs.declared.status.Status.{Status as AnyOtherStatus};
 
@@ -60,9 +60,9 @@ fn seed(
     command: &SketchCommand,
     noted: &mut Noted,
 ) -> Option<Box<FileSource>> {
-    let opening = sketch_ports(command).second;
-    noted.seed = seed_look(rt, words, opening).unwrap_or_default();
-    source(rt, words, opening, noted)
+    let plan = sketch_ports(command);
+    noted.seed = seed_look(rt, words, plan.second).unwrap_or_default();
+    source(rt, words, plan.second, noted)
 }
 
 /// The desk of the sketch that the words name; `None` where memory is refused.
