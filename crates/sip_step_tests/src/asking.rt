@@ -1,12 +1,12 @@
 // A question that is driven by hand.
-ghost use Rattle.std.specs.Prelude.{◌≡◌, ◌≤◌, IfOk, length};
+ghost use Rattle.std.specs.Prelude.{◌≡◌, IfOk, length};
 ghost use Rattle.sip_subvec.specs.Asking.{SubStands, phase_of};
 ghost use Rattle.sip_subvec.specs.Protocol.{sub_protocol};
 ghost use Rattle.sip_wire.specs.declared.message.Message.TheVariants as messages;
 ghost use Rattle.sip_steps.specs.Asked.{IsBegun};
 
 use sip_check_tests::events::sent_in;
-use sip_field::{Field, M61, OutOfMemory, Seat};
+use sip_field::{Field, M61, Seat};
 use sip_ports::{MemoryLink, PortStop};
 use sip_replies::{AskStop, Check, Request, Said};
 use sip_steps::Asking;
@@ -66,17 +66,6 @@ pub(crate) fn pass<C: Check + Drop, Q: Request + Drop>(
         asking.due(link)?;
     }
     Ok(taken)
-}
-
-// Bytes in pieces of a size.
-pub(crate) fn pieces_of(alloc: Global, bytes: &[u8], size: usize) -> Result<Vec<&[u8]>, OutOfMemory>
-    requires { 1 ≤ size }
-{
-    let mut pieces = Vec::new(alloc);
-    for piece in bytes.chunks(size) {
-        pieces.push(piece)?;
-    }
-    Ok(pieces)
 }
 
 // What came of a question: the verdict, the pairs, how many bytes were taken, and what was sent.

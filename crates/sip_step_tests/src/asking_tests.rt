@@ -1,11 +1,10 @@
 // One question without a link, over talks that were worked out by hand.
-use crate::asking::{came_of, pieces_of};
-use crate::facts::expect;
+use crate::asking::came_of;
+use crate::pieces::{Row, cut_in_two, in_pieces};
 use sip_replies::{AskStop, Said};
 use sip_vector::Entry;
 use sip_wire::Reason;
 use std::alloc::Global;
-use std::process::Abort;
 use std::test::Fail;
 
 // The query, and the first challenge.
@@ -70,7 +69,7 @@ impl Verdict {
 
 // What the other end says, part by part, and whether it closes then; what comes of it: the verdict,
 // how many bytes are taken, and what was sent.
-struct Row {
+struct AskRow {
     name: &'static str,
     said: &'static [&'static [u8]],
     closes: bool,
@@ -79,8 +78,8 @@ struct Row {
     sent: &'static [&'static [u8]],
 }
 
-const ROWS: &[Row] = &[
-    Row {
+const ROWS: &[AskRow] = &[
+    AskRow {
         name: "the entries are told",
         said: &[&ENTRY, &SIBLINGS, &NONE],
         closes: false,
@@ -88,7 +87,7 @@ const ROWS: &[Row] = &[
         taken: 41,
         sent: REVEALED,
     },
-    Row {
+    AskRow {
         name: "bytes behind the verdict are left",
         said: &[&ENTRY, &SIBLINGS, &NONE, &MORE],
         closes: true,
@@ -96,7 +95,7 @@ const ROWS: &[Row] = &[
         taken: 41,
         sent: REVEALED,
     },
-    Row {
+    AskRow {
         name: "the second reply is not whole",
         said: &[&ENTRY, &SIBLINGS, &MORE],
         closes: false,
@@ -104,7 +103,7 @@ const ROWS: &[Row] = &[
         taken: 40,
         sent: REVEALED,
     },
-    Row {
+    AskRow {
         name: "the other end closes inside it",
         said: &[&ENTRY, &SIBLINGS, &MORE],
         closes: true,
@@ -112,7 +111,7 @@ const ROWS: &[Row] = &[
         taken: 40,
         sent: REVEALED,
     },
-    Row {
+    AskRow {
         name: "the other end closes before a byte",
         said: &[],
         closes: true,
@@ -120,7 +119,7 @@ const ROWS: &[Row] = &[
         taken: 0,
         sent: ASKED,
     },
-    Row {
+    AskRow {
         name: "a wrong entry",
         said: &[&WRONG, &SIBLINGS, &NONE],
         closes: false,
@@ -128,7 +127,7 @@ const ROWS: &[Row] = &[
         taken: 41,
         sent: REVEALED,
     },
-    Row {
+    AskRow {
         name: "an entry behind the interval",
         said: &[&BEHIND, &SIBLINGS, &NONE],
         closes: false,
@@ -136,7 +135,7 @@ const ROWS: &[Row] = &[
         taken: 17,
         sent: ASKED,
     },
-    Row {
+    AskRow {
         name: "a sibling is missing",
         said: &[&ENTRY, &LEFT, &NONE],
         closes: false,
@@ -144,7 +143,7 @@ const ROWS: &[Row] = &[
         taken: 29,
         sent: ASKED,
     },
-    Row {
+    AskRow {
         name: "a sibling that is not asked for",
         said: &[&ENTRY, &SIBLINGS, &LEFT, &MORE],
         closes: false,
@@ -152,7 +151,7 @@ const ROWS: &[Row] = &[
         taken: 49,
         sent: REVEALED,
     },
-    Row {
+    AskRow {
         name: "a number that is no element",
         said: &[&ENTRY, &NO_ELEMENT, &NONE],
         closes: false,
@@ -160,7 +159,7 @@ const ROWS: &[Row] = &[
         taken: 29,
         sent: ASKED,
     },
-    Row {
+    AskRow {
         name: "a kind that may not come",
         said: &[&QUERY],
         closes: false,
@@ -168,7 +167,7 @@ const ROWS: &[Row] = &[
         taken: 3,
         sent: ASKED,
     },
-    Row {
+    AskRow {
         name: "entries where siblings are due alone",
         said: &[&ENTRY, &SIBLINGS, &ENTRY],
         closes: false,
@@ -176,7 +175,7 @@ const ROWS: &[Row] = &[
         taken: 40,
         sent: REVEALED,
     },
-    Row {
+    AskRow {
         name: "a length that the kind has not",
         said: &[&[0x14, 0, 2, 0, 0]],
         closes: false,
@@ -184,7 +183,7 @@ const ROWS: &[Row] = &[
         taken: 3,
         sent: ASKED,
     },
-    Row {
+    AskRow {
         name: "a refusal",
         said: &[&REFUSE, &ENTRY],
         closes: false,
@@ -194,40 +193,25 @@ const ROWS: &[Row] = &[
     },
 ];
 
-// Whether this comes of a row whose bytes come in these pieces.
-fn is_so(alloc: Global, row: &Row, pieces: &[&[u8]]) -> Result<[bool; 4], Fail> {
-    let came = came_of(alloc, pieces, row.closes)?;
-    Ok([
-        came.verdict == row.verdict.said(),
-        came.taken == row.taken,
-        came.sent.as_slice() == row.sent.concat(alloc)?.as_slice(),
-        came.pairs.as_slice() == row.verdict.pairs(),
-    ])
-}
-
-// A row whose bytes come in pieces of one size.
-fn in_pieces(rt: &impl Abort, alloc: Global, row: &Row) -> Result<(), Fail> {
-    let bytes = row.said.concat(alloc)?;
-    let sizes = [
-        pieces_of(alloc, &bytes, 1)?,
-        pieces_of(alloc, &bytes, 2)?,
-        pieces_of(alloc, &bytes, 7)?,
-        pieces_of(alloc, &bytes, 100)?,
-    ];
-    for pieces in sizes.iter() {
-        expect(rt, row.name, &is_so(alloc, row, pieces)?);
+impl Row for AskRow {
+    fn name(&self) -> &str {
+        self.name
     }
-    Ok(())
-}
 
-// A row whose bytes are cut in two, at each byte.
-fn cut_in_two(rt: &impl Abort, alloc: Global, row: &Row) -> Result<(), Fail> {
-    let bytes = row.said.concat(alloc)?;
-    for cut in 0..bytes.len() {
-        let (front, rest) = bytes.split_at(cut);
-        expect(rt, row.name, &is_so(alloc, row, &[front, rest])?);
+    fn said(&self) -> &[&[u8]] {
+        self.said
     }
-    Ok(())
+
+    fn is_so(&self, alloc: Global, pieces: &[&[u8]]) -> Result<bool, Fail> {
+        let came = came_of(alloc, pieces, self.closes)?;
+        let sent = self.sent.concat(alloc)?;
+        Ok(
+            came.verdict == self.verdict.said()
+                && came.pairs.as_slice() == self.verdict.pairs()
+                && came.taken == self.taken
+                && came.sent.as_slice() == sent.as_slice(),
+        )
+    }
 }
 
 #[test]

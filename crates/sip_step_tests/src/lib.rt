@@ -11,6 +11,8 @@ mod both_ends_tests;
 #[cfg(test)]
 mod facts;
 #[cfg(test)]
+mod pieces;
+#[cfg(test)]
 mod serving;
 #[cfg(test)]
 mod serving_tests;

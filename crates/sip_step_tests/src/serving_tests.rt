@@ -1,10 +1,8 @@
 // A helper without a link, over talks that were worked out by hand.
-use crate::asking::pieces_of;
-use crate::facts::expect;
+use crate::pieces::{Row, cut_in_two, in_pieces};
 use crate::serving::served;
 use sip_helper::HelpStatus;
 use std::alloc::Global;
-use std::process::Abort;
 use std::test::Fail;
 
 // The opening of a talk over four items, the vector (3, 0, 5, 1) and its end.
@@ -34,7 +32,7 @@ const OUT_OF_TURN: [u8; 4] = [0x18, 0, 1, 4];
 
 // What the other end says, part by part, whether it closes then, and which call of the sink fails;
 // what comes of it: how the talk ends, how many bytes are taken, and what is sent.
-struct Row {
+struct ServeRow {
     name: &'static str,
     said: &'static [&'static [u8]],
     closes: bool,
@@ -44,8 +42,8 @@ struct Row {
     sent: &'static [&'static [u8]],
 }
 
-const ROWS: &[Row] = &[
-    Row {
+const ROWS: &[ServeRow] = &[
+    ServeRow {
         name: "a whole talk",
         said: &[&STREAM, &QUERY, &REVEAL, &BYE],
         closes: false,
@@ -54,7 +52,7 @@ const ROWS: &[Row] = &[
         taken: 78,
         sent: &[&ENTRY, &NO_SIBLINGS],
     },
-    Row {
+    ServeRow {
         name: "bytes behind a Bye are left",
         said: &[&STREAM, &QUERY, &REVEAL, &BYE, &QUERY],
         closes: true,
@@ -63,7 +61,7 @@ const ROWS: &[Row] = &[
         taken: 78,
         sent: &[&ENTRY, &NO_SIBLINGS],
     },
-    Row {
+    ServeRow {
         name: "more is to come",
         said: &[&STREAM, &QUERY, &REVEAL, &[6, 0]],
         closes: false,
@@ -72,7 +70,7 @@ const ROWS: &[Row] = &[
         taken: 77,
         sent: &[&ENTRY, &NO_SIBLINGS],
     },
-    Row {
+    ServeRow {
         name: "the other end closes inside a frame",
         said: &[&STREAM, &QUERY, &REVEAL, &[6, 0]],
         closes: true,
@@ -81,7 +79,7 @@ const ROWS: &[Row] = &[
         taken: 77,
         sent: &[&ENTRY, &NO_SIBLINGS],
     },
-    Row {
+    ServeRow {
         name: "a query before the stream",
         said: &[&OPEN, &QUERY, &BYE],
         closes: false,
@@ -90,7 +88,7 @@ const ROWS: &[Row] = &[
         taken: 17,
         sent: &[&OUT_OF_TURN],
     },
-    Row {
+    ServeRow {
         name: "a challenge too many",
         said: &[&STREAM, &QUERY, &REVEAL, &REVEAL, &BYE],
         closes: false,
@@ -99,7 +97,7 @@ const ROWS: &[Row] = &[
         taken: 86,
         sent: &[&ENTRY, &NO_SIBLINGS, &OUT_OF_TURN],
     },
-    Row {
+    ServeRow {
         name: "a kind that no frame has",
         said: &[&STREAM, &[9, 0, 0], &BYE],
         closes: false,
@@ -108,7 +106,7 @@ const ROWS: &[Row] = &[
         taken: 55,
         sent: &[],
     },
-    Row {
+    ServeRow {
         name: "a length that the kind has not",
         said: &[&STREAM, &[5, 0, 9], &BYE],
         closes: false,
@@ -117,7 +115,7 @@ const ROWS: &[Row] = &[
         taken: 55,
         sent: &[],
     },
-    Row {
+    ServeRow {
         name: "the sink fails at the first reply",
         said: &[&STREAM, &QUERY, &REVEAL, &BYE],
         closes: false,
@@ -126,7 +124,7 @@ const ROWS: &[Row] = &[
         taken: 64,
         sent: &[],
     },
-    Row {
+    ServeRow {
         name: "the sink fails inside the first reply",
         said: &[&STREAM, &QUERY, &REVEAL, &BYE],
         closes: true,
@@ -137,39 +135,24 @@ const ROWS: &[Row] = &[
     },
 ];
 
-// Whether this comes of a row whose bytes come in these pieces.
-fn is_so(alloc: Global, row: &Row, pieces: &[&[u8]]) -> Result<[bool; 3], Fail> {
-    let served = served(alloc, pieces, row.closes, row.fails)?;
-    Ok([
-        served.status == row.status,
-        served.taken == row.taken,
-        served.sent.as_slice() == row.sent.concat(alloc)?.as_slice(),
-    ])
-}
-
-// A row whose bytes come in pieces of one size.
-fn in_pieces(rt: &impl Abort, alloc: Global, row: &Row) -> Result<(), Fail> {
-    let bytes = row.said.concat(alloc)?;
-    let sizes = [
-        pieces_of(alloc, &bytes, 1)?,
-        pieces_of(alloc, &bytes, 2)?,
-        pieces_of(alloc, &bytes, 7)?,
-        pieces_of(alloc, &bytes, 100)?,
-    ];
-    for pieces in sizes.iter() {
-        expect(rt, row.name, &is_so(alloc, row, pieces)?);
+impl Row for ServeRow {
+    fn name(&self) -> &str {
+        self.name
     }
-    Ok(())
-}
 
-// A row whose bytes are cut in two, at each byte.
-fn cut_in_two(rt: &impl Abort, alloc: Global, row: &Row) -> Result<(), Fail> {
-    let bytes = row.said.concat(alloc)?;
-    for cut in 0..bytes.len() {
-        let (front, rest) = bytes.split_at(cut);
-        expect(rt, row.name, &is_so(alloc, row, &[front, rest])?);
+    fn said(&self) -> &[&[u8]] {
+        self.said
     }
-    Ok(())
+
+    fn is_so(&self, alloc: Global, pieces: &[&[u8]]) -> Result<bool, Fail> {
+        let served = served(alloc, pieces, self.closes, self.fails)?;
+        let sent = self.sent.concat(alloc)?;
+        Ok(
+            served.status == self.status
+                && served.taken == self.taken
+                && served.sent.as_slice() == sent.as_slice(),
+        )
+    }
 }
 
 #[test]
