@@ -47,16 +47,19 @@ impl<'a> Read for LateFile<'a> {
     }
 }
 
-/// Why the file of a store could not be read, as far as a second look tells. A FIFO is not looked
-/// at, since to open it waits for its other end.
-fn trouble(rt: &HostRuntime, words: &Words, opening: Opening) -> Option<Unopened> {
-    let name = opening.name(words)?;
-    if fs::metadata(rt, name).is_ok_and(|told| told.file_type().is_fifo()) {
-        return None;
+/// Notes why the file of a store could not be read, as far as a second look tells. A FIFO is not
+/// looked at, since to open it waits for its other end.
+fn look_again(rt: &HostRuntime, words: &Words, opening: Opening, note: &mut Option<Unopened>) {
+    let Some(name) = opening.name(words) else {
+        return;
+    };
+    let is_fifo = match fs::metadata(rt, name) {
+        Ok(told) => told.file_type().is_fifo(),
+        Err(_) => false,
+    };
+    if !is_fifo {
+        let _ = opened(rt, words, opening, note);
     }
-    let mut note = None;
-    let _ = opened(rt, words, opening, &mut note);
-    note
 }
 
 /// A source over the file of a stream, which is opened when it is first read; `None` where memory
@@ -93,7 +96,7 @@ pub fn obey_stored(
     let mut first = stored(rt, words, command, plan.first, tells)?;
     let status = obey_over(rt, words, command, plan, &mut *first, noted, tells)?;
     if matches!(status, Status::ReadFault { port: Port::First }) && noted.first.is_none() {
-        noted.first = trouble(rt, words, plan.first);
+        look_again(rt, words, plan.first, &mut noted.first);
     }
     Some(status)
 }
