@@ -47,17 +47,21 @@ impl<'a> Read for LateFile<'a> {
     }
 }
 
+/// Whether an opening is on a FIFO.
+fn is_fifo(rt: &HostRuntime, words: &Words, opening: &Opening) -> bool {
+    let Some(name) = opening.name(words) else {
+        return false;
+    };
+    match fs::metadata(rt, name) {
+        Ok(told) => told.file_type().is_fifo(),
+        Err(_) => false,
+    }
+}
+
 /// Notes why the file of a store could not be read, as far as a second look tells. A FIFO is not
 /// looked at, since to open it waits for its other end.
 fn look_again(rt: &HostRuntime, words: &Words, opening: Opening, note: &mut Option<Unopened>) {
-    let Some(name) = opening.name(words) else {
-        return;
-    };
-    let is_fifo = match fs::metadata(rt, name) {
-        Ok(told) => told.file_type().is_fifo(),
-        Err(_) => false,
-    };
-    if !is_fifo {
+    if !is_fifo(rt, words, &opening) {
         let _ = opened(rt, words, opening, note);
     }
 }
