@@ -1,6 +1,8 @@
 // Questions of every kind in one talk, asked of the helper: what is asked is what the helper hears,
 // and what it replies is judged.
-ghost use Rattle.std.specs.Prelude.{All, IfOk, IfSome, ◌≤◌, length};
+ghost use Rattle.std.specs.Prelude.{All, IfOk, IfSome, IsTrue, ◌≡◌, ◌≤◌, length};
+ghost use Rattle.sip_verifier.specs.QuerySeats.{keeps};
+ghost use Rattle.sip_verifier.specs.Running.{block_of, numbers_of};
 ghost use Rattle.sip_wire.specs.Table.{most_queries};
 ghost use Rattle.sip_wire.specs.declared.version.Version.TheVariants.{One};
 ghost use Rattle.sip_questions.specs.Sittings.{CanAsk};
@@ -19,7 +21,7 @@ use sip_moments::Moment;
 use sip_ports::{MemoryLink, MemorySink};
 use sip_questions::{Question, QuestionAsker, QuestionSeat};
 use sip_tree::{AugRoot, Root};
-use sip_vector::{Depth, Query, Side};
+use sip_vector::{CAP, Depth, Query, Side};
 use sip_verifier::{Running, Status, Weights, conclude_run};
 use sip_wire::{Reason, Version};
 use std::alloc::Global;
@@ -102,8 +104,28 @@ const KINDS: [Kind; 8] = [
     },
 ];
 
-// The seat of a question at these challenges, by the numbers of that vector: its root is 73, its
+// The numbers of that vector that a query is judged by, at these challenges: its root is 73, its
 // extension -3, and its augmented root 8739 with the total 9.
+fn running_of(query: &Query, seat: Seat<M61, CAP>) -> Option<Running>
+    ensures keeps { IfSome result (λ running. IsTrue (keeps query.now (numbers_of running))) }
+    ensures block { IfSome result (λ running. block_of running ≡ seat) }
+{
+    match query {
+        Query::Sub { .. } => Some(Running::Root(Root { seat, value: 73 })),
+        Query::Range { .. } | Query::F2 { .. } => Some(Running::Point(Point {
+            seat,
+            value: (1 << 61) - 4,
+        })),
+        Query::Heavy { .. } => Some(Running::AugRoot(AugRoot {
+            seat,
+            hash: 8739,
+            total: 9,
+        })),
+        _ => None,
+    }
+}
+
+// The seat of a question by these numbers.
 fn seat_of(question: Question) -> Option<QuestionSeat>
     ensures { IfSome result (CanAsk One 2) }
 {
@@ -112,19 +134,7 @@ fn seat_of(question: Question) -> Option<QuestionSeat>
         return None;
     }
     let seat = Seat::of(&[M61::of(2), M61::of(10)])?;
-    let running = match question.query_like() {
-        Query::Sub { .. } => Running::Root(Root { seat, value: 73 }),
-        Query::Range { .. } | Query::F2 { .. } => Running::Point(Point {
-            seat,
-            value: (1 << 61) - 4,
-        }),
-        Query::Heavy { .. } => Running::AugRoot(AugRoot {
-            seat,
-            hash: 8739,
-            total: 9,
-        }),
-        _ => return None,
-    };
+    let running = running_of(&question.query_like(), seat)?;
     Some(QuestionSeat::of(question, running))
 }
 

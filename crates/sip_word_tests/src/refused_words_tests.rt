@@ -36,18 +36,6 @@ const REFUSALS: &[Refusal<'static>] = &[
     ("audit|s|t|", Some(3)),
     ("audit|s|t|2", Some(3)),
     ("Audit|s|t", Some(0)),
-    ("serve", Some(1)),
-    ("serve|", Some(1)),
-    ("serve|made:7:20|f|t", Some(1)),
-    ("serve|text:|f|t", Some(1)),
-    ("serve|-", Some(2)),
-    ("serve|s||t", Some(2)),
-    ("serve|-|-", Some(3)),
-    ("serve|s|f|", Some(3)),
-    ("serve|s|f|t", None),
-    ("serve|-|-|-", None),
-    ("serve|s|f|t|-", Some(4)),
-    ("serves|s|f|t", Some(0)),
     ("show", Some(1)),
     ("show|", Some(1)),
     ("show|t", None),
@@ -311,6 +299,22 @@ const REFUSALS: &[Refusal<'static>] = &[
     ),
 ];
 
+// Of the command that has the stream in a file.
+const OF_SERVE: &[Refusal<'static>] = &[
+    ("serve", Some(1)),
+    ("serve|", Some(1)),
+    ("serve|made:7:20|f|t", Some(1)),
+    ("serve|text:|f|t", Some(1)),
+    ("serve|-", Some(2)),
+    ("serve|s||t", Some(2)),
+    ("serve|-|-", Some(3)),
+    ("serve|s|f|", Some(3)),
+    ("serve|s|f|t", None),
+    ("serve|-|-|-", None),
+    ("serve|s|f|t|-", Some(4)),
+    ("serves|s|f|t", Some(0)),
+];
+
 pub fn check_refusals(rt: &impl Abort, alloc: Global, rows: &[Refusal]) -> Result<(), Fail> {
     for &(name, want) in rows {
         let word = refused_at(&words_between(alloc, name, '|')?);
@@ -331,4 +335,9 @@ pub fn check_refusals(rt: &impl Abort, alloc: Global, rows: &[Refusal]) -> Resul
 #[test]
 fn refuses_the_first_word_that_begins_no_command(rt: HostRuntime) -> Result<(), Fail> {
     check_refusals(&rt, rt.alloc(), REFUSALS)
+}
+
+#[test]
+fn refuses_what_serves_no_stream_in_a_file(rt: HostRuntime) -> Result<(), Fail> {
+    check_refusals(&rt, rt.alloc(), OF_SERVE)
 }
