@@ -69,6 +69,22 @@ unfoldable pub words_after : ℕ → Stream → Stream
 words_after zero words = words
 words_after (suc count) words = words_after count (draw_one words).1
 
+-- the words that are left behind the other draws where the first gave a challenge, else its own
+abbrev pub left_behind : Option ℕ → Stream → Stream → Stream
+left_behind (Some _) others first = others
+left_behind None others first = first
+
+-- the words that are left where `count` draws end, behind the first that is spent at the latest
+unfoldable pub words_left : ℕ → Stream → Stream
+words_left zero words = words
+words_left (suc count) words =
+    left_behind (draw_one words).0 (words_left count (draw_one words).1) (draw_one words).1
+
+-- a list that was drawn leaves the words behind its last draw
+abbrev pub LeavesTheRest : Type 0
+LeavesTheRest = (count : ℕ) (words : Stream) (rs : List ℕ) → draw_list count words ≡ Some rs →
+    words_left count words ≡ words_after count words
+
 -- a list is drawn block by block
 abbrev pub DrawsInBlocks : Type 0
 DrawsInBlocks =

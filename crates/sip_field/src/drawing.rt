@@ -1,7 +1,7 @@
 //! Challenges that are drawn from a generator's words.
 ghost use Rattle.std.specs.Prelude.{◌≡◌, ℕ, ◌-◌, ◌≤◌, ◌↔◌, IsErr, length};
 ghost use Rattle.sip_field.specs.Draw.{AllMissed, drawn, drawn_list, draw_one, draw_list};
-ghost use Rattle.sip_field.specs.Draw.{seed_words};
+ghost use Rattle.sip_field.specs.Draw.{seed_words, words_left};
 
 use crate::arithmetic::Field;
 use crate::mersenne::M61;
@@ -34,6 +34,25 @@ pub fn draw_one<R: Rng>(rng: &mut R) -> Result<M61, SeedSpent>
     Err(SeedSpent)
 }
 
+/// The next `count` challenges of a generator, in order.
+///
+/// The words of these draws are taken from it: up to the draw that is spent, where the answer is
+/// `SeedSpent`.
+pub fn draw_next<R: Rng, const CAP: usize>(
+    rng: &mut R,
+    count: usize,
+) -> Result<ArrayVec<M61, CAP>, SeedSpent>
+    requires { count ≤ CAP }
+    ensures drawn { drawn_list result ≡ draw_list count (R.stream rng.old) }
+    ensures left { R.stream rng.new ≡ words_left count (R.stream rng.old) }
+{
+    let mut challenges = ArrayVec::new();
+    for _ in 0..count {
+        challenges.push(draw_one(rng)?);
+    }
+    Ok(challenges)
+}
+
 /// The first `count` challenges that `ChaCha20Rng::from_seed(seed)` gives, in order.
 ///
 /// `SeedSpent` where one of these draws is.
@@ -45,10 +64,5 @@ pub fn draw_challenges<const CAP: usize>(
     requires { count ≤ CAP }
     ensures { drawn_list result ≡ draw_list count (seed_words seed) }
 {
-    let mut rng = ChaCha20Rng::from_seed(seed);
-    let mut challenges = ArrayVec::new();
-    for _ in 0..count {
-        challenges.push(draw_one(&mut rng)?);
-    }
-    Ok(challenges)
+    draw_next(&mut ChaCha20Rng::from_seed(seed), count)
 }

@@ -1,6 +1,6 @@
 //! Laws of the definitions. These functions do nothing: each contract is a fact that holds.
 ghost use Rattle.std.specs.Prelude.{◌≡◌, ℕ, ◌-◌, ◌%◌, ◌^◌, [], ◌∷◌, negsuc};
-ghost use Rattle.sip_field.specs.Draw.{DrawsInBlocks};
+ghost use Rattle.sip_field.specs.Draw.{DrawsInBlocks, LeavesTheRest};
 ghost use Rattle.sip_field.specs.Moduli.{f31_modulus, m61_modulus};
 ghost use Rattle.sip_field.specs.Polynomial.{polynomial};
 ghost use Rattle.sip_field.specs.Prime.{IsPrime};
@@ -30,6 +30,11 @@ pub fn modulus_is_prime<F: PrimeField>()
 /// left.
 pub fn draws_in_blocks()
     ensures { DrawsInBlocks }
+{}
+
+/// Where no draw was spent, the words that are left are those behind all draws.
+pub fn draws_leave_the_rest()
+    ensures { LeavesTheRest }
 {}
 
 /// Two values that were worked out by hand: the residue of -2^63 modulo 2^61 - 1, and that of 34 -

@@ -4,8 +4,8 @@
 //!   [`PrimeField`] that modulo a prime. [`M61`], modulo 2^61 - 1, is the field of every run.
 //!   [`F31`], modulo 31, is for tests that try all challenges.
 //! - [`horner`] is the value of a polynomial.
-//! - [`draw_one`] draws a challenge from a generator's words, and [`draw_challenges`] draws the
-//!   first ones of a seed.
+//! - [`draw_one`] draws a challenge from a generator's words, [`draw_next`] the next few, and
+//!   [`draw_challenges`] the first ones of a seed.
 //! - [`Seat`] keeps the challenges of one query. [`fill_tables`] makes tables of products of them,
 //!   and [`by_tables`] looks a product up in these, seven challenges at a time.
 //!
@@ -60,7 +60,7 @@
 //! | `plus`, `minus` | 0 | a few additions |
 //! | `horner` of n coefficients | n | n `plus` |
 //! | `draw_one` | 0 | one word, and another for each that gives no challenge, eight at most |
-//! | `draw_challenges` of n | 0 | n times `draw_one` |
+//! | `draw_next`, `draw_challenges` of n | 0 | n times `draw_one` |
 //! | `Seat::of` of n challenges | 0 | n copies |
 //! | `Seat::depth`, `Seat::at` | 0 | |
 //! | `fill_tables` | 127 for each seven challenges | as many `minus` for `Factors::Extension` |
@@ -78,7 +78,7 @@ mod seats;
 mod small;
 
 pub use arithmetic::{Field, PrimeField};
-pub use drawing::{SeedSpent, draw_challenges, draw_one};
+pub use drawing::{SeedSpent, draw_challenges, draw_next, draw_one};
 pub use factors::{Factors, by_tables, fill_tables, loosely_by_tables, of_wide};
 pub use memory::OutOfMemory;
 pub use mersenne::M61;

@@ -168,8 +168,8 @@ impl HelperCore {
         requires live { self.old.spent ≡ false }
         ensures turn { IsOk result
             ↔ IsTrue (is_allowed self.old (messages.Updates (record { items = updates.now }))) }
-        ensures heard { OnOk result ((refused : Bool)
-            × (self.new ≡ step self.old refused (messages.Updates (record { items = updates.now })))) }
+        ensures heard { OnOk result ((refused : Bool) × (self.new
+            ≡ step self.old refused (messages.Updates (record { items = updates.now })))) }
         ensures same { OnErr result (self.new ≡ self.old) }
     {
         let Some(depth) = self.heard.part() else {

@@ -344,8 +344,8 @@ fn what_may_not_come_in_a_talk_over_a_store(rt: HostRuntime) {
     are_served(&rt, rt.alloc(), &STOPPED);
 }
 
-// A talk about all records. The store is read five times, once for each record and once for its end,
-// and the link is called six times, twice for each frame with a body.
+// A talk about all records. The store is read five times, once for each record and once for its
+// end, and the link is called six times, twice for each frame with a body.
 const ALL: [&[u8]; 3] = [&OPEN, &RECALL_ALL, &BYE];
 
 #[test]

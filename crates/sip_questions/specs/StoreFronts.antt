@@ -1,5 +1,6 @@
 -- Which records of its store a helper hears, and what it is told of them before.
-use Rattle.std.specs.Prelude.{◌≡◌, ℕ, ◌<◌, ◌≤◌, List, ◌++◌, length, take, IfSome, Option, Some, None}
+use Rattle.std.specs.Prelude.{◌≡◌, ℕ, ◌<◌, ◌≤◌, List, ◌++◌, length, take}
+use Rattle.std.specs.Prelude.{IfSome, Option, Some, None}
 use Rattle.sip_stream.specs.declared.fault.StreamFault.{StreamFault}
 use Rattle.sip_stream.specs.declared.fault.StreamFault.TheVariants as faults
 use Rattle.sip_stream.specs.declared.form.Form.{Form}

@@ -16,7 +16,7 @@
 //! them to hear, hears so many or all, says what they come to, and answers from there on
 //! (`ServesStore`).
 //!
-//! So far no command asks so, and none serves so.
+//! The command `serve` is [`serve_store`] over a file and a link.
 //!
 //! # The definitions to read
 //!

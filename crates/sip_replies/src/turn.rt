@@ -38,15 +38,15 @@ pub enum Stage {
     Rejected { round: u8, reason: Reason },
 }
 
-/// Where in its talk a query is. It knows no link: whoever has it sends what is due, and hands over
-/// what came.
+/// Where in its talk a query is. It knows no link: whoever has it sends what is due, and hands
+/// over what came.
 ///
-/// [`begin`](Turn::begin) comes first. Then, until there is a [`verdict`](Turn::verdict): what is due
-/// is [sent](Turn::send), that is [told](Turn::sent), and the bytes that come are
+/// [`begin`](Turn::begin) comes first. Then, until there is a [`verdict`](Turn::verdict): what is
+/// due is [sent](Turn::send), that is [told](Turn::sent), and the bytes that come are
 /// [fed](Turn::feed) in any pieces, until no reply is [awaited](Turn::is_hearing). The check, the
-/// places and the frame are those of all calls, with nothing changed in between. [`ask`](crate::ask)
-/// does so over a link. A call takes time in proportion to the bytes that it is given, and no
-/// memory.
+/// places and the frame are those of all calls, with nothing changed in between.
+/// [`ask`](crate::ask) does so over a link. A call takes time in proportion to the bytes that it is
+/// given, and no memory.
 #[derive(Clone, Copy, Debug, PartialEq, Eq)]
 pub struct Turn {
     version: Version,

@@ -28,8 +28,8 @@ abbrev pub pairs_of : Stage → List Entry → List Entry
 pairs_of (stages.Said (saids.Pairs found)) places = take found places
 pairs_of _ places = []
 
--- These events are a talk of what is asked, as far as the turn is. The last bytes may be a part of a
--- frame. `stands` says of a state that a check and its places stand for it.
+-- These events are a talk of what is asked, as far as the turn is. The last bytes may be a part of
+-- a frame. `stands` says of a state that a check and its places stand for it.
 pub record IsAsked {C Q S : Type 0} (P : Protocol S) (stands : S → C → List Entry → Type 0)
     (phase : C → Phase) (message : Q → Message) (request : Message) (block : List ℕ)
     (events : List TalkEvent) (a : Asking C Q) : Type 0 where

@@ -1,7 +1,7 @@
 //! A helper's end of a talk, without a link.
 
-ghost use Rattle.std.specs.Prelude.{◌≡◌, ◌<◌, ◌≤◌, ◌++◌, [], ℕ, List, None, Some, false, length, take};
-ghost use Rattle.std.specs.Prelude.{IfOk, IsSome, IsTrue, Ok, Err};
+ghost use Rattle.std.specs.Prelude.{◌≡◌, ◌<◌, ◌≤◌, ◌++◌, [], ℕ, List, None, Some, false};
+ghost use Rattle.std.specs.Prelude.{length, take, IfOk, IsSome, IsTrue, Ok, Err};
 ghost use Rattle.sip_ports.specs.declared.port.TalkEvent.{TalkEvent as AnyEvent};
 ghost use Rattle.sip_ports.specs.Ports.{GoesOn, Lasts, Rose, ins, outs};
 ghost use Rattle.sip_wire.specs.Frames.{frame_bytes};

@@ -20,7 +20,13 @@ use crate::report::write_rejection;
 use sip_ports::{Link, Sink};
 
 /// Asks the next query, which has this number, and writes the line of its verdict.
-fn check_next<Q: Asker, L: Link, K: Sink, C: Sink>(
+///
+/// # Errors
+///
+/// `Rejected`, behind the line of the rejection; `WriteFault` of the report, behind a front of a
+/// line; `WriteFault` of `keep` and `PeerFault`, behind nothing. `OutOfMemory` is one of the last
+/// three, and comes only where a port wanted memory.
+pub fn check_next<Q: Asker, L: Link, K: Sink, C: Sink>(
     asker: &mut Q,
     number: u8,
     peer: &mut L,

@@ -80,7 +80,7 @@ mod weights;
 
 pub use asker::{Asker, Unanswered, has_failed};
 pub use checking::{check_stream, conclude_session, open_session};
-pub use concluding::conclude_run;
+pub use concluding::{check_next, conclude_run};
 pub use ending::{on_link, on_report, status_of, status_of_fault};
 pub use feed::Feed;
 pub use gathering::{draw, follow, gather, on_stream};
