@@ -42,3 +42,4 @@ pub mod Merged
 pub mod MergedCrashes
 pub mod Shapes
 pub mod Marked
+pub mod Free

@@ -20,6 +20,7 @@ use sip_vector::Depth;
 use std::alloc::Global;
 
 // Loads the sketch, whose file has to be missing.
+#[inline(never)]
 fn find_none<D: Desk>(alloc: Global, desk: &mut D) -> Result<(), SketchStatus>
     ensures none { OnOk result (Loads (D.start desk.old) (D.talk desk.old) None) }
     ensures why { IfErr result (IsNotMissing (D.start desk.old) (D.talk desk.old)) }
@@ -100,6 +101,7 @@ fn first_file(
 /// `second`; `BadSeed`; `SeedSpent`; `WriteFault` of the sketch; `Wrote`. `OutOfMemory` may come at
 /// each step.
 #[tactic(auto, using(crate::proofs::Founded::founding))]
+#[inline(never)]
 pub fn begin<B: Source, D: Desk>(
     alloc: Global,
     depth: Depth,

@@ -1,5 +1,5 @@
 -- A block is drawn whole.
-use Rattle.std.proofs.Common.{◌≡◌, ◌<◌, true, false, All, length, map, ap, subst, sym, ◌∙◌, arith}
+use Rattle.std.proofs.Common.{◌≡◌, ◌<◌, true, false, All, length, ap, subst, sym, ◌∙◌, arith}
 use Rattle.std.proofs.lemmas.List.{length-map}
 use Rattle.sip_field.specs.Elements.{m61_number}
 use Rattle.sip_field.specs.Moduli.{m61_modulus}

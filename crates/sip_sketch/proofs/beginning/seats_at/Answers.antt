@@ -1,9 +1,8 @@
 -- Each seat has its own block of challenges.
-use Rattle.std.proofs.Common.{◌≡◌, ◌+◌, ◌<◌, [], ◌∷◌, ◌++◌, length, sym, subst, refl, ◌∙◌, arith, rules, List}
+use Rattle.std.proofs.Common.{◌≡◌, ◌+◌, [], ◌∷◌, ◌++◌, sym, subst, refl, ◌∙◌, arith, rules}
 use Rattle.std.proofs.lemmas.Result.{err_from_is_err_and}
-use Rattle.sip_sketch.specs.Sketches.{SeatValues}
 use Rattle.sip_sketch.specs.declared.kind.SeatKind.TheVariants.{Entries}
-use Rattle.sip_sketch.proofs.Begun.{AreSoFar, begun_all, begun_more, begun_none, begun_spent}
+use Rattle.sip_sketch.proofs.Begun.{AreSoFar, begun_all, begun_more, begun_spent}
 use Rattle.sip_sketch.proofs.beginning.seats_at.Goals as goal
 
 pub returns-in_err-next_seat-clause-spent : goal.returns-in_err-next_seat-clause-spent

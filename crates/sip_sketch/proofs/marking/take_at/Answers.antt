@@ -1,5 +1,5 @@
 -- The seat is put back, used.
-use Rattle.std.proofs.Common.{◌≡◌, set, ap, ◌∙◌}
+use Rattle.std.proofs.Common.{set, ap, ◌∙◌}
 use Rattle.sip_sketch.proofs.Marked.{set-used}
 use Rattle.sip_sketch.proofs.marking.take_at.Goals as goal
 
