@@ -13,14 +13,14 @@ ghost use Rattle.sip_sketch.specs.Standing.{IsBegun};
 ghost use Rattle.sip_sketch.specs.inside.Causes.{with_second, with_sketch};
 ghost use Rattle.sip_sketch.specs.inside.Founding.{HasNoSeed, IsNotMissing};
 
+use crate::loading::load_file;
 use crate::storing::store;
 use crate::{BeginFault, SeatKind, Sketch, SketchPort, SketchStatus};
-use sip_ports::{Desk, DeskStop, PortStop, Source, read_exact_into};
+use sip_ports::{Desk, PortStop, Source, read_exact_into};
 use sip_vector::Depth;
 use std::alloc::Global;
 
 // Loads the sketch, whose file has to be missing.
-#[inline(never)]
 fn find_none<D: Desk>(alloc: Global, desk: &mut D) -> Result<(), SketchStatus>
     ensures none { OnOk result (Loads (D.start desk.old) (D.talk desk.old) None) }
     ensures why { IfErr result (IsNotMissing (D.start desk.old) (D.talk desk.old)) }
@@ -31,14 +31,9 @@ fn find_none<D: Desk>(alloc: Global, desk: &mut D) -> Result<(), SketchStatus>
     ensures start { D.start desk.new ≡ D.start desk.old }
     ensures desk { Lasts D.faults D.wants D.is_sure desk.old desk.new }
 {
-    match desk.load(alloc) {
-        Ok(None) => Ok(()),
-        Ok(Some(_)) => Err(SketchStatus::Exists),
-        Err(DeskStop::Failed) => Err(SketchStatus::ReadFault {
-            port: SketchPort::Sketch,
-        }),
-        Err(DeskStop::OutOfMemory) => Err(SketchStatus::OutOfMemory),
-        Err(DeskStop::Busy) => Err(SketchStatus::Busy),
+    match load_file(alloc, desk)? {
+        None => Ok(()),
+        Some(_) => Err(SketchStatus::Exists),
     }
 }
 
