@@ -10,7 +10,7 @@ from harness.settings import reachable, stream_word
 from harness.streams import put
 from harness.talks import Talks, made, parts
 
-# What `verify` and `help` may touch, and what README allows to every command.
+# What `verify`, `help` and the commands that keep a sketch may touch, and what README allows to every command.
 ENDS, MOST = 64 * 1024, 96 * 1024
 RECORDS = 100_000
 MADE = f"made:7:{RECORDS}"
@@ -38,6 +38,9 @@ def measure(programs, settings, work):
         for label, words, code in alone(depth, work):
             child = run([*programs["sip"], *words], traced=True, wanted=code, quiet=True)
             table.line(f"{label} {depth}", {"sip": child.stack})
+        for label, words in keeping(depth, work):
+            child = run([*programs["sip"], *words], traced=True, quiet=True)
+            table.line(f"{label} {depth}", {"sip": child.stack}, ENDS)
     for words in (["--version"], ["--help"], ["verify", "--help"]):
         table.line(" ".join(words), {"sip": run([*programs["sip"], *words], traced=True).stack})
     return table.above
@@ -121,3 +124,19 @@ def alone(depth, work):
     yield "convert", ["convert", record], ACCEPTED
     yield "panel of 3", ["panel", word, seed, "mute,skewed,honest", depth, *few], ACCEPTED
     yield "panel of 16", ["panel", MADE, seed, ",".join(["honest"] * 16), depth, "sub:0:999"], ACCEPTED
+
+
+def keeping(depth, work):
+    """The commands that keep a sketch with 64 seats, each with its name and its words: of a stream whole, and of two parts."""
+    seed = os.path.join(work, "seed")
+    whole, one, two, both = (os.path.join(work, f"{name}{depth}") for name in ("whole", "one", "two", "both"))
+    word = stream_word(os.path.join(work, "stream"), depth)
+    seats = ["entries:16", "sums:0:8", "sums:1:8", "products:16", "heavy:0:8", "heavy:1:8"]
+    yield "begin", ["begin", whole, seed, depth, "1/1", *seats]
+    yield "watch", ["watch", whole, word, "+", RECORDS // 10]
+    yield "watch from 0", ["watch", whole, word, 0, "-"]
+    yield "seats", ["seats", whole]
+    yield "begin 1/2", ["begin", one, seed, depth, "1/2", *seats]
+    yield "begin 2/2", ["begin", two, seed, depth, "2/2", *seats]
+    yield "watch a part", ["watch", one, word, "+", "-"]
+    yield "merge", ["merge", both, one, two]

@@ -54,6 +54,10 @@ fn added(
 
 /// The seed of a command, which is looked at too; a source that fails where it has none. `None`
 /// where memory is refused.
+///
+/// What opens or asks about a file has a buffer for each path, of some KiB. So each such call here
+/// is one of its own, and the stack has none of these buffers while a command is done.
+#[inline(never)]
 fn seed(
     rt: &HostRuntime,
     words: &Words,
@@ -75,6 +79,7 @@ fn desk(rt: &HostRuntime, words: &Words) -> Option<Box<SketchDesk>> {
 
 /// Opens the files that the words name, and does the command that they spell. A file that does not
 /// open is a port whose calls fail. `None` where memory is refused to a port.
+#[inline(never)]
 fn obey_named(
     rt: &HostRuntime,
     words: &Words,
@@ -111,6 +116,7 @@ fn file_count(command: &SketchCommand) -> u32 {
 }
 
 /// Whether others than its owner can read the file of this number.
+#[inline(never)]
 fn is_shared(rt: &HostRuntime, words: &Words, number: u32) -> bool {
     let Some(name) = file_opening(number).name(words) else {
         return false;
@@ -133,6 +139,7 @@ fn are_shared(rt: &HostRuntime, words: &Words, command: &SketchCommand) -> bool 
 
 /// Whether beside the sketch stands one that a run left which was killed; `None` where memory is
 /// refused.
+#[inline(never)]
 fn left_behind(rt: &HostRuntime, words: &Words) -> Option<bool> {
     let path = file_opening(0).name(words)?;
     let beside = match rt.canonicalize(rt.alloc(), path) {
@@ -140,6 +147,25 @@ fn left_behind(rt: &HostRuntime, words: &Words) -> Option<bool> {
         Err(_) => format!(in rt.alloc(); "{path}.new").ok()?,
     };
     Some(fs::symlink_metadata(rt, beside.as_str()).is_ok())
+}
+
+/// Writes what went wrong and what can be done about it. It is a call of its own: the lines are not
+/// on the stack while a command is done.
+#[inline(never)]
+fn explained(
+    rt: &HostRuntime,
+    words: &Words,
+    noted: &Noted,
+    status: &SketchStatus,
+    look: SketchLook,
+) -> Ending
+    ensures { result.code ≡ code_of_sketch status.now }
+{
+    let mut errors = StderrSink::new(rt.stderr());
+    let ending = finish_sketch(status, &mut errors);
+    let ending = advise_sketch(ending, words, noted, status, &mut errors);
+    let ending = caution_sketch(ending, look, &mut errors);
+    ending.warn(noted, &mut errors)
 }
 
 /// Does the command that the words spell, and writes what went wrong and what can be done about it.
@@ -154,14 +180,11 @@ fn obey_spelled(rt: &HostRuntime, words: &Words, command: &SketchCommand, tells:
     );
     // Another run that has the sketch may be about to store it.
     let is_left = status != SketchStatus::Busy && left_behind(rt, words).unwrap_or(false);
-    let mut errors = StderrSink::new(rt.stderr());
-    let ending = finish_sketch(&status, &mut errors);
-    let ending = advise_sketch(ending, words, &noted, &status, &mut errors);
-    let ending = caution_sketch(ending, SketchLook { is_shared, is_left }, &mut errors);
-    ending.warn(&noted, &mut errors)
+    explained(rt, words, &noted, &status, SketchLook { is_shared, is_left })
 }
 
 /// The page's part about `seats`, where the words ask for it and nothing has the name of its file.
+#[inline(never)]
 fn page_behind(rt: &HostRuntime, words: &Words, command: &SketchCommand) -> Option<&'static str> {
     let SketchCommand::Seats = command else {
         return None;
@@ -175,6 +198,7 @@ fn page_behind(rt: &HostRuntime, words: &Words, command: &SketchCommand) -> Opti
 }
 
 /// Writes a part of the page.
+#[inline(never)]
 fn paged(rt: &HostRuntime, words: &Words, text: &str) -> Ending
     ensures { (status : AnyOtherStatus) × (result.code ≡ code_of status) }
 {
@@ -183,6 +207,7 @@ fn paged(rt: &HostRuntime, words: &Words, text: &str) -> Ending
 }
 
 /// Writes what may stand at the word that was refused.
+#[inline(never)]
 fn refused(rt: &HostRuntime, verb: SketchVerb, usage: Usage) -> Ending
     ensures { result.code ≡ code_of (Status.Usage usage.word) }
 {

@@ -41,3 +41,5 @@ pub mod WatchedCrashes
 pub mod Merged
 pub mod MergedCrashes
 pub mod Shapes
+pub mod Marked
+pub mod Free

@@ -1,6 +1,7 @@
 //! Adds the records of a stream to a sketch that is stored again and again.
 
-ghost use Rattle.std.specs.Prelude.{◌≡◌, ◌≢◌, ◌<◌, ◌≤◌, ℕ, List, Some, IsSome, IfSome, length, take};
+ghost use Rattle.std.specs.Prelude.{◌≡◌, ◌≢◌, ◌<◌, ◌≤◌, ℕ, List, Some, IsSome, IfSome, length};
+ghost use Rattle.std.specs.Prelude.{take};
 ghost use Rattle.sip_ports.specs.Ports.{Lasts, Rose};
 ghost use Rattle.sip_stream.specs.declared.fault.StreamFault.TheVariants as faults;
 ghost use Rattle.sip_vector.specs.declared.update.Update.{Update as AnyUpdate};
@@ -91,17 +92,19 @@ fn add_block<A: Source>(
     (count, pause)
 }
 
-/// Adds the records of a stream to a sketch, in blocks of at most 512, and stores it after every so
-/// many and at the end, also where the stream is read no further.
+/// Adds the records of a stream to a sketch, by the block, and stores it after every so many and at
+/// the end, also where the stream is read no further.
 pub(crate) fn follow<A: Source, D: Desk>(
     sketch: &mut Sketch,
     file: &mut Vec<u8>,
+    block: &mut [Update],
     form: Form,
     every: Option<u64>,
     first: &mut A,
     desk: &mut D,
 ) -> SketchStatus
-    requires { IfSome every (λ count. 0 < count) }
+    requires every { IfSome every (λ count. 0 < count) }
+    requires block { length block.old ≡ MOST_UPDATES }
     ensures adds { Adds form every sketch.old (A.left first.old) (D.talk desk.old)
         (A.left first.new) (D.talk desk.new) result }
     ensures cause { (before now : AnyCounts) → HasRisen
@@ -113,7 +116,6 @@ pub(crate) fn follow<A: Source, D: Desk>(
     ensures desk { Lasts D.faults D.wants D.is_sure desk.old desk.new }
 {
     sketch.has_a_file();
-    let mut block = [Update::default(); MOST_UPDATES];
     let mut pace = Pace::new(every);
     loop {
         let most = pace.most();

@@ -13,9 +13,10 @@ ghost use Rattle.sip_sketch.specs.Standing.{IsBegun};
 ghost use Rattle.sip_sketch.specs.inside.Causes.{with_second, with_sketch};
 ghost use Rattle.sip_sketch.specs.inside.Founding.{HasNoSeed, IsNotMissing};
 
+use crate::loading::load_file;
 use crate::storing::store;
 use crate::{BeginFault, SeatKind, Sketch, SketchPort, SketchStatus};
-use sip_ports::{Desk, DeskStop, PortStop, Source, read_exact_into};
+use sip_ports::{Desk, PortStop, Source, read_exact_into};
 use sip_vector::Depth;
 use std::alloc::Global;
 
@@ -30,14 +31,9 @@ fn find_none<D: Desk>(alloc: Global, desk: &mut D) -> Result<(), SketchStatus>
     ensures start { D.start desk.new ≡ D.start desk.old }
     ensures desk { Lasts D.faults D.wants D.is_sure desk.old desk.new }
 {
-    match desk.load(alloc) {
-        Ok(None) => Ok(()),
-        Ok(Some(_)) => Err(SketchStatus::Exists),
-        Err(DeskStop::Failed) => Err(SketchStatus::ReadFault {
-            port: SketchPort::Sketch,
-        }),
-        Err(DeskStop::OutOfMemory) => Err(SketchStatus::OutOfMemory),
-        Err(DeskStop::Busy) => Err(SketchStatus::Busy),
+    match load_file(alloc, desk)? {
+        None => Ok(()),
+        Some(_) => Err(SketchStatus::Exists),
     }
 }
 
@@ -100,6 +96,7 @@ fn first_file(
 /// `second`; `BadSeed`; `SeedSpent`; `WriteFault` of the sketch; `Wrote`. `OutOfMemory` may come at
 /// each step.
 #[tactic(auto, using(crate::proofs::Founded::founding))]
+#[inline(never)]
 pub fn begin<B: Source, D: Desk>(
     alloc: Global,
     depth: Depth,

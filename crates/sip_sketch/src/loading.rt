@@ -14,6 +14,9 @@ use sip_ports::{Desk, DeskStop};
 use std::alloc::Global;
 
 /// The bytes of the sketch's file; `None` where it is missing. It takes memory for them.
+///
+/// A load has buffers for paths, and none of them stays on the stack.
+#[inline(never)]
 pub(crate) fn load_file<D: Desk>(
     alloc: Global,
     desk: &mut D,

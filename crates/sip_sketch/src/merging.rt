@@ -128,6 +128,7 @@ fn add_up<P: SketchFiles>(
 /// part in turn `ReadFault`, `BadSketch`, at 0 where its file is missing, and `Unlike` with the
 /// first reason that there is, of which those against the sum come with the last part;
 /// `WriteFault` of the sketch; `Wrote`. `OutOfMemory` may come at each step.
+#[inline(never)]
 pub fn merge<P: SketchFiles, D: Desk>(
     alloc: Global,
     parts: &mut P,

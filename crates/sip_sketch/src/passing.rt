@@ -13,14 +13,16 @@ use sip_ports::Source;
 use sip_stream::{Form, Reader};
 use sip_vector::{Depth, Update};
 
-/// Reads so many records of a stream, each of which has to be legal after those before it, and
-/// answers how many came, and why there are no more.
+/// Reads so many records of a stream, each of which has to be legal after those before it, by the
+/// block, and answers how many came, and why there are no more.
 pub(crate) fn pass_over<A: Source>(
     depth: Depth,
     form: Form,
     count: u64,
     first: &mut A,
+    block: &mut [Update],
 ) -> (u64, Pause)
+    requires { length block.old ≡ MOST_UPDATES }
     ensures most { result.0 ≤ count }
     ensures full { result.1 ≡ pauses.Full → result.0 ≡ count }
     ensures fewer { result.1 ≢ pauses.Full → result.0 < count }
@@ -33,7 +35,6 @@ pub(crate) fn pass_over<A: Source>(
     ensures first { Lasts A.faults A.wants A.is_sure first.old first.new }
 {
     let mut reader = Reader::new(depth, form);
-    let mut block = [Update::default(); MOST_UPDATES];
     let mut passed = 0;
     while passed < count {
         let most = (count - passed).min(MOST_UPDATES as u64) as usize;

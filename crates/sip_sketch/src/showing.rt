@@ -1,6 +1,6 @@
 //! Shows a sketch, but for what has to stay secret.
 
-ghost use Rattle.std.specs.Prelude.{◌≡◌, ◌+◌, ◌≤◌, ◌++◌, ℕ, length, IfErr, IfOk};
+ghost use Rattle.std.specs.Prelude.{◌≡◌, ◌+◌, ◌≤◌, ◌++◌, [], ℕ, length, IfErr, IfOk};
 ghost use Rattle.arrayvec.specs.ArrayVec.{array_vec_len};
 ghost use Rattle.sip_ports.specs.Ports.{Lasts};
 ghost use Rattle.sip_sketch.specs.Risen.{Counts as AnyCounts, HasRisen, counts};
@@ -92,33 +92,32 @@ fn put_seat(out: &mut ArrayVec<u8, ROOM>, number: u64, seat: &SketchSeat)
     }
 }
 
-// The lines of the head.
-fn head(sketch: &Sketch) -> ArrayVec<u8, ROOM>
-    ensures items { result.items ≡ head_lines sketch.now }
-    ensures len { array_vec_len result ≤ HEAD }
+// Adds the lines of the head, which are the first.
+fn put_head(out: &mut ArrayVec<u8, ROOM>, sketch: &Sketch)
+    requires { out.old.items ≡ [] }
+    ensures items { out.new.items ≡ head_lines sketch.now }
+    ensures len { array_vec_len out.new ≤ HEAD }
 {
     let tally = sketch.tally();
-    let mut out = ArrayVec::new();
-    put(&mut out, b"depth ");
-    put_number(&mut out, u64::from(sketch.depth().get()));
-    put(&mut out, b"\n");
-    put_parts(&mut out, &sketch.parts());
-    put_records(&mut out, &tally);
-    put(&mut out, b"negatives");
-    put(&mut out, sides(tally.negatives));
-    put(&mut out, b"\n");
-    out
+    put(out, b"depth ");
+    put_number(out, u64::from(sketch.depth().get()));
+    put(out, b"\n");
+    put_parts(out, &sketch.parts());
+    put_records(out, &tally);
+    put(out, b"negatives");
+    put(out, sides(tally.negatives));
+    put(out, b"\n");
 }
 
-// All lines.
-fn lines(sketch: &Sketch) -> ArrayVec<u8, ROOM>
-    ensures { result.items ≡ lines_of sketch.now }
+// Adds all lines.
+fn put_lines(out: &mut ArrayVec<u8, ROOM>, sketch: &Sketch)
+    requires { out.old.items ≡ [] }
+    ensures { out.new.items ≡ lines_of sketch.now }
 {
-    let mut out = head(sketch);
+    put_head(out, sketch);
     for (index, seat) in sketch.seats().iter().enumerate() {
-        put_seat(&mut out, index as u64 + 1, seat);
+        put_seat(out, index as u64 + 1, seat);
     }
-    out
 }
 
 // Loads the sketch.
@@ -148,6 +147,7 @@ fn load<F: SketchFiles>(alloc: Global, files: &mut F) -> Result<Sketch, SketchSt
 ///
 /// The first of these endings: `ReadFault` of the sketch; `BadSketch` of part 0, at 0 where there
 /// is no file; `WriteFault` of the report; `Wrote`. `OutOfMemory` may come at each step.
+#[inline(never)]
 pub fn seats<F: SketchFiles, K: Sink>(alloc: Global, files: &mut F, report: &mut K) -> SketchStatus
     ensures shows { Shows (F.content files.old) (K.talk report.old) (K.talk report.new) result }
     ensures cause { HasRisen (counts 0 0 (F.faults files.old) 0 (K.faults report.old))
@@ -160,7 +160,9 @@ pub fn seats<F: SketchFiles, K: Sink>(alloc: Global, files: &mut F, report: &mut
         Ok(sketch) => sketch,
         Err(status) => return status,
     };
-    match write_whole(report, lines(&sketch).as_slice()) {
+    let mut lines = ArrayVec::new();
+    put_lines(&mut lines, &sketch);
+    match write_whole(report, lines.as_slice()) {
         Ok(()) => SketchStatus::Wrote,
         Err(PortStop::Failed) => SketchStatus::WriteFault {
             port: SketchPort::Report,

@@ -10,6 +10,7 @@ use crate::{SketchPort, SketchStatus};
 use sip_ports::{Desk, DeskStop};
 
 /// Puts these bytes in the place of the file of the sketch.
+#[inline(never)]
 pub(crate) fn store<D: Desk>(desk: &mut D, file: &[u8]) -> SketchStatus
     ensures talk { Stores (D.talk desk.old) (D.talk desk.new) file.now result }
     ensures cause { (before now : AnyCounts) → HasRisen (with_sketch before (D.faults desk.old))

@@ -7,14 +7,15 @@ ghost use Rattle.sip_sketch.specs.Watching.{Watches, begins_at};
 ghost use Rattle.sip_sketch.specs.declared.status.SketchStatus.TheVariants as statuses;
 ghost use Rattle.sip_sketch.specs.inside.Causes.{with_first, with_sketch};
 
-use crate::SketchStatus;
 use crate::filling::Pause;
 use crate::following::{follow, status_of};
 use crate::keeping::close;
 use crate::loading::{load_file, read_part};
 use crate::passing::pass_over;
+use crate::{MOST_UPDATES, SketchStatus};
 use sip_ports::{Desk, Source};
 use sip_stream::Form;
+use sip_vector::Update;
 use std::alloc::Global;
 
 // The number of the stream's first record, by the own count of a sketch with so many records.
@@ -36,7 +37,8 @@ fn begins_at(at: Option<u64>, records: u64) -> u64
 /// any crash, over the same log grown longer: each record is added once.
 ///
 /// Where a record is not legal, or reading the stream stops, the sketch is stored once more with
-/// what came before. Memory is taken for the sketch and for its file, and none for a record.
+/// what came before. Memory is taken for the sketch, for its file and for a block of 512 records,
+/// and none for a record.
 ///
 /// The first of these endings: `ReadFault` of the sketch or `Busy`; `BadSketch` of part 0, at 0
 /// where there is no file; `BadStart` exactly where more than one part is in or `at` is above the
@@ -45,6 +47,7 @@ fn begins_at(at: Option<u64>, records: u64) -> u64
 /// `WriteFault` of the sketch comes wherever it is stored, in place of the status of a stream that
 /// is read no further too. `OutOfMemory` may come where memory is taken, and where `first` or the
 /// desk is refused some.
+#[inline(never)]
 pub fn watch<A: Source, D: Desk>(
     alloc: Global,
     form: Form,
@@ -81,9 +84,12 @@ pub fn watch<A: Source, D: Desk>(
     if is_sum || start > records {
         return SketchStatus::BadStart { records, is_sum };
     }
-    let (passed, pause) = pass_over(sketch.depth(), form, records - start, first);
+    let Ok(mut block) = vec![in alloc; Update::default(); MOST_UPDATES] else {
+        return SketchStatus::OutOfMemory;
+    };
+    let (passed, pause) = pass_over(sketch.depth(), form, records - start, first, &mut block);
     match pause {
-        Pause::Full => follow(&mut sketch, &mut file, form, every, first, desk),
+        Pause::Full => follow(&mut sketch, &mut file, &mut block, form, every, first, desk),
         Pause::Ended => SketchStatus::Behind { at: start + passed },
         Pause::Stopped(fault) => {
             let status = status_of(fault, start + passed);

@@ -7,6 +7,7 @@ use Rattle.sip_vector.specs.declared.tally.Tally.{Tally}
 use Rattle.sip_sketch.specs.Risen.{HasRisen}
 use Rattle.sip_sketch.specs.declared.filling.Pause.TheVariants.{Full, Ended, Stopped}
 use Rattle.sip_sketch.specs.inside.Causes.{with_first, with_sketch}
+use Rattle.sip_sketch.proofs.Free.{closes_free}
 use Rattle.sip_sketch.proofs.Rises.{risen_since, stream_risen}
 use Rattle.sip_sketch.proofs.Watched.{added_to, ended_before, ready, stopped_before, unread}
 use Rattle.sip_sketch.proofs.watching.watch.Goals as goal
@@ -77,3 +78,8 @@ returns-clause-cause g c = λ before now.
     let stream : HasRisen (with_sketch was d) (with_sketch is e) c.status_of-status.result =
     rw c.status_of-status.ensures (stream_risen (with_sketch was d) (with_sketch is e) c.in-Stopped.fault (c.begins_at-start.result + c.pass_over-passed.result.0) (λ fault. c.pass_over-passed.ensures.cause (c.in-Stopped.is ∙ ap Stopped fault))) in
     risen_since before now d (g.D.Sink.faults c.args.desk.now) a a e b c.close.result c.load_file.ensures.desk.later (omega arith) (c.close.ensures.cause was is stream)
+
+pub returns-clause-free : goal.returns-clause-free
+returns-clause-free g c = λ sure busy.
+    closes_free c.in-Stopped.fault (c.begins_at-start.result + c.pass_over-passed.result.0) _ _ _ c.close.result
+    (rw c.status_of-status.ensures at c.close.ensures.talk) busy

@@ -2,7 +2,7 @@
 use Rattle.std.proofs.Common.{◌≡◌, ◌+◌, ◌*◌, ◌≤◌, ◌++◌, drop}
 use Rattle.arrayvec.specs.ArrayVec.{array_vec_len}
 use Rattle.sip_sketch.specs.SeatLines.{lines_of, seat_lines}
-use Rattle.sip_sketch.proofs.showing.lines.Given as goal
+use Rattle.sip_sketch.proofs.showing.put_lines.Given as goal
 
 abbrev pub invariant-loop-index : goal.invariant-loop-index
 invariant-loop-index l = record {
