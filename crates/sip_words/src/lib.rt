@@ -4,7 +4,8 @@
 //! they are, or the number of the first word such that the words up to it begin none. [`ports`]
 //! says what each port of a command is opened on, under which name ([`Opening::name`]), and which
 //! end of the link first ([`PortPlan::link_order`]); [`PortPlan::sparing`] leaves out an output
-//! that would empty another file of the command. Nothing is opened here.
+//! that would empty another file of the command. Nothing is opened here. [`read_query`],
+//! [`read_lookup`] and [`read_moment`] read one word, for a command whose words stand elsewhere.
 //!
 //! # The definitions to read
 //!
@@ -40,8 +41,11 @@ mod words;
 pub use command::{Command, read_words, verb_of};
 pub use decimal::read_decimal;
 pub use helper_name::HelperName;
+pub use lookup::read_lookup;
+pub use moment::read_moment;
 pub use plan::{LinkOrder, Opening, PortPlan, ports};
-pub use sparing::{FileId, PlanFiles};
+pub use query::read_query;
+pub use sparing::{FileId, PlanFiles, unless};
 pub use stream::{Stream, read_stored, stream_of};
 pub use verb::Verb;
 pub use words::{Usage, Words};

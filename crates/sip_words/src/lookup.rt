@@ -27,7 +27,7 @@ fn spelled(word: &str) -> Option<Lookup>
 }
 
 /// The lookup that a word asks: `index:I`, `pred:I` or `succ:I`, with I below 2^depth.
-pub(crate) fn read_lookup(word: &str, depth: Depth) -> Option<Lookup>
+pub fn read_lookup(word: &str, depth: Depth) -> Option<Lookup>
     ensures { MatchOption result
         ((lookup : AnyLookup) → AsksLook depth lookup word.now → ⊥)
         (λ lookup. AsksLook depth lookup word.now) }

@@ -30,7 +30,7 @@ fn degree_behind(front: &str, word: &str) -> Option<u8>
 }
 
 /// The moment that a word asks: `moment:SIDE:K`, with SIDE 0 or 1 and K from 3 to 8.
-pub(crate) fn read_moment(word: &str) -> Option<Moment>
+pub fn read_moment(word: &str) -> Option<Moment>
     ensures { MatchOption result
         ((m : AnyMoment) → IsDegree m.degree → word.now ≢ moment_word m)
         (λ m. IsDegree m.degree × (word.now ≡ moment_word m)) }

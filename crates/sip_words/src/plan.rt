@@ -89,8 +89,8 @@ impl Opening {
         }
     }
 
-    // On the file that a word names; or so, where it is `-`.
-    fn named(dash: Opening, words: &Words, word: usize) -> Opening
+    /// On the file that a word names; or so, where it is `-`.
+    pub fn named(dash: Opening, words: &Words, word: usize) -> Opening
         ensures { word < length words.now
             → IsUnlessDash dash (word_at words.now word) word result }
     {

@@ -119,7 +119,7 @@ fn spelled(word: &str) -> Option<Query>
 /// `range:SIDE:LO:HI`, `f2:SIDE`, `inner`, `heavy:SIDE:T` or `share:SIDE:NUM:DEN`, with LO up to
 /// HI, HI below 2^depth, SIDE 0 or 1, T from 1 to 2^63 - 1, and NUM from 1 to DEN, which is up to
 /// 1,000,000.
-pub(crate) fn read_query(word: &str, depth: Depth) -> Option<Query>
+pub fn read_query(word: &str, depth: Depth) -> Option<Query>
     ensures { MatchOption result
         ((query : AnyQuery) → Asks depth query word.now → ⊥)
         (λ query. Asks depth query word.now) }

@@ -61,8 +61,8 @@ fn spared_if(spared: bool, opening: Opening) -> Opening
     if spared { Opening::Spared } else { opening }
 }
 
-// The opening, or none where its file is one of these.
-fn unless(opening: Opening, file: Option<FileId>, others: [Option<FileId>; 4]) -> Opening
+/// The opening, or none where its file is one of these.
+pub fn unless(opening: Opening, file: Option<FileId>, others: [Option<FileId>; 4]) -> Opening
     ensures { OpensUnless (IsAmong file others) opening result }
 {
     spared_if(is_among(file, others), opening)
