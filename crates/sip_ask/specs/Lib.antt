@@ -1,6 +1,9 @@
+pub mod Asking
+pub mod Causes
 pub mod Choosing
 pub mod Counting
 pub mod Examples
 pub mod Marking
 pub mod Runs
 pub mod Turns
+pub mod inside
