@@ -8,9 +8,11 @@ use Rattle.sip_ports.specs.declared.port.TalkEvent.{TalkEvent}
 use Rattle.sip_ports.specs.declared.port.TalkEvent.TheVariants.{Ended}
 use Rattle.sip_vector.specs.Answers.{pairs}
 use Rattle.sip_vector.specs.declared.update.Update.{Update}
+use Rattle.sip_wire.specs.Faults.{IsOfBytes}
 use Rattle.sip_wire.specs.Reading.{read_frame}
 use Rattle.sip_wire.specs.declared.kind.Place.TheVariants as wire_places
 use Rattle.sip_wire.specs.declared.message.Held.{Held}
+use Rattle.sip_wire.specs.declared.message.WireFault.{WireFault}
 use Rattle.sip_wire.specs.declared.message.WireFault.TheVariants as faults
 use Rattle.sip_wire.specs.declared.version.Version.{Version}
 use Rattle.sip_replies.specs.Talks.{IsPrefix}
@@ -180,8 +182,8 @@ module _ (asked : List Question) (start : Option (List ℕ))
   abbrev pub IsBadHeld : Version → SketchValues → List TalkEvent → Type 0
   IsBadHeld version s events = (bytes : List ℕ)
       × (events ≡ recall_sent version s.depth s.tally.count ++ ins bytes)
-      × ((read_frame version wire_places.Held bytes ≡ Err faults.BadKind)
-      ⊎ (read_frame version wire_places.Held bytes ≡ Err faults.BadLength))
+      × (fault : WireFault) × IsOfBytes fault
+      × (read_frame version wire_places.Held bytes ≡ Err fault)
 
   -- or the other end holds something else
   abbrev pub IsOutOfStep : Held → Held → Version → SketchValues → List TalkEvent → Type 0

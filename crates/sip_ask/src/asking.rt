@@ -5,8 +5,6 @@ ghost use Rattle.std.specs.Prelude.{vec_capacity};
 ghost use Rattle.sip_ports.specs.Ports.{Lasts};
 ghost use Rattle.sip_vector.specs.declared.update.Update.{Update as AnyUpdate};
 ghost use Rattle.sip_wire.specs.Table.{most_queries};
-ghost use Rattle.sip_verifier.specs.Statuses.{Stops, stops_asking};
-ghost use Rattle.sip_verifier.specs.Snapshots.{counts};
 ghost use Rattle.sip_verifier.specs.runs.Askers.{IsFirst, behind};
 ghost use Rattle.sip_questions.specs.Questions.{asking};
 ghost use Rattle.sip_questions.specs.Sittings.{StandsOn, remaining_of};
@@ -16,14 +14,15 @@ ghost use Rattle.sip_ask.specs.Asking.{AsksAll, Came, StoresFirst, marked_by};
 ghost use Rattle.sip_ask.specs.Causes.{HasRisen, IsStop};
 ghost use Rattle.sip_ask.specs.Turns.{block_at};
 ghost use Rattle.sip_ask.specs.Marking.{mark};
-ghost use Rattle.sip_ask.specs.inside.Steps.{IsIdle, IsLive, IsMarked, IsNext, SaysNone};
-ghost use Rattle.sip_ask.specs.inside.Steps.{StandsReady, Stores, behind_turn, of_run};
+ghost use Rattle.sip_ask.specs.inside.Steps.{IsIdle, IsLive, IsMarked, IsNext, IsReportStop};
+ghost use Rattle.sip_ask.specs.inside.Steps.{SaysNone, StandsReady, Stores, behind_turn};
 
+use crate::ending::{on_link, on_report, on_run};
 use crate::{AskPort, AskStatus};
 use sip_ports::{Desk, DeskStop, NullSink, Sink};
 use sip_questions::{Question, QuestionAsker};
 use sip_sketch::Sketch;
-use sip_verifier::{Asker, Status, check_next, on_link, on_report, write_pairs};
+use sip_verifier::{Asker, check_next, write_pairs};
 
 /// A sketch that is asked, with room for its file, and what asks the questions that take seats.
 #[derive(Drop)]
@@ -31,29 +30,6 @@ pub(crate) struct Asking {
     pub(crate) sketch: Sketch,
     pub(crate) file: Vec<u8>,
     pub(crate) asker: QuestionAsker,
-}
-
-/// What a part of a run of questions came to behind its opening, as an ask ends by it.
-fn of_run(came: Result<(), Status>) -> Result<(), AskStatus>
-    ensures { result ≡ of_run came }
-{
-    match came {
-        Ok(()) => Ok(()),
-        Err(Status::Rejected {
-            query,
-            round,
-            reason,
-        }) => Err(AskStatus::Rejected {
-            query,
-            round,
-            reason,
-        }),
-        Err(Status::WriteFault { .. }) => Err(AskStatus::WriteFault {
-            port: AskPort::Report,
-        }),
-        Err(Status::PeerFault) => Err(AskStatus::PeerFault),
-        Err(_) => Err(AskStatus::OutOfMemory),
-    }
 }
 
 /// Marks the seat at a place used and stores the sketch. Behind `Ok` no crash leaves it unused, so
@@ -88,11 +64,11 @@ fn mark<D: Desk>(
 }
 
 /// Writes the line of a question that asks for entries larger than all of a side: there is none.
-fn say_none<K: Sink>(question: &Question, report: &mut K) -> Result<(), Status>
+fn say_none<K: Sink>(question: &Question, report: &mut K) -> Result<(), AskStatus>
     requires { IsIdle question.now }
     ensures says { SaysNone question.now (K.talk report.old) (K.talk report.new) result }
-    ensures cause { Stops stops_asking (counts 0 0 0 (K.faults report.old) 0)
-        (counts 0 0 0 (K.faults report.new) 0) result }
+    ensures stops { IfErr result IsReportStop }
+    ensures cause { IfErr result (HasRisen 0 0 (K.faults report.old) (K.faults report.new)) }
     ensures report { Lasts K.faults K.wants K.is_sure report.old report.new }
 {
     match question {
@@ -137,7 +113,7 @@ impl Asking {
     {
         mark(&mut self.sketch, place, &mut self.file, desk)?;
         let mut keep = NullSink::new();
-        of_run(check_next(&mut self.asker, number, desk, report, &mut keep))
+        on_run(check_next(&mut self.asker, number, desk, report, &mut keep))
     }
 
     /// Asks the next question, which has this number, on the seat at its place; or writes its line,
@@ -171,7 +147,7 @@ impl Asking {
     {
         match place {
             Some(place) => self.ask_on(place, number, desk, report),
-            None => of_run(say_none(question, report)),
+            None => say_none(question, report),
         }
     }
 
@@ -202,6 +178,6 @@ impl Asking {
         for (index, place) in places.iter().enumerate() {
             self.take_turn(&questions[index], *place, index as u8 + 1, desk, report)?;
         }
-        of_run(on_link(self.asker.say_farewell(desk)))
+        on_link(self.asker.say_farewell(desk))
     }
 }

@@ -38,6 +38,7 @@
 mod ask;
 mod asking;
 mod choosing;
+mod ending;
 pub mod examples;
 pub mod laws;
 mod opening;

@@ -1,16 +1,19 @@
 //! The other end is told how much of the stream is asked about, and says what it holds of it.
 
 ghost use Rattle.std.specs.Prelude.{◌≡◌, ◌≤◌, MatchResult, Ok, Err};
-ghost use Rattle.sip_ports.specs.Ports.{Lasts, Rose};
-ghost use Rattle.sip_ports.specs.declared.port.PortStop.{PortStop as AnyPortStop};
-ghost use Rattle.sip_wire.specs.Versions.{deepest};
-ghost use Rattle.sip_ask.specs.Turns.{held_by};
-ghost use Rattle.sip_ask.specs.inside.Opening.{HearsHeld, OpensWith, of_stop};
+ghost use Rattle.sip_ports.specs.Ports.{HasCause, Lasts, Rose, SendsWhole};
+ghost use Rattle.sip_wire.specs.Spelling.{spelling};
+ghost use Rattle.sip_wire.specs.Versions.{deepest, number_of};
+ghost use Rattle.sip_wire.specs.declared.message.Message.TheVariants as messages;
+ghost use Rattle.sip_wire.specs.declared.message.WireFault.{WireFault as AnyWireFault};
+ghost use Rattle.sip_ask.specs.Turns.{held_by, recall_bytes};
+ghost use Rattle.sip_ask.specs.inside.Opening.{HearsHeld, OpensWith, of_fault};
 
 use crate::AskStatus;
-use sip_ports::{Link, PortStop};
+use crate::ending::on_link;
+use sip_ports::{Link, PortStop, Sink};
 use sip_vector::{Depth, Tally};
-use sip_wire::{Frame, Held, Message, Place, Version, WireFault, decode, encode};
+use sip_wire::{Frame, Held, Message, Place, Version, WireFault, decode_within, encode};
 
 // What a sketch has of its stream, as a helper says what it holds.
 fn held_by(tally: &Tally) -> Held
@@ -24,16 +27,59 @@ fn held_by(tally: &Tally) -> Held
     }
 }
 
-// What sending on the link gave.
-fn on_link(sent: Result<(), PortStop>) -> Result<(), AskStatus>
-    ensures { MatchResult result (λ x. sent ≡ Ok x)
-        (λ status. (stop : AnyPortStop) × (sent ≡ Err stop) × (status ≡ of_stop stop)) }
+// What receiving the frame gave that is due.
+fn on_frame(judged: Result<(), WireFault>) -> Result<(), AskStatus>
+    ensures { MatchResult result (λ x. judged ≡ Ok x)
+        (λ status. (fault : AnyWireFault) × (judged ≡ Err fault) × (status ≡ of_fault fault)) }
 {
-    match sent {
+    match judged {
         Ok(()) => Ok(()),
-        Err(PortStop::Failed) => Err(AskStatus::PeerFault),
-        Err(PortStop::OutOfMemory) => Err(AskStatus::OutOfMemory),
+        Err(WireFault::Closed) => Err(AskStatus::PeerClosed),
+        Err(WireFault::PeerFault) => Err(AskStatus::PeerFault),
+        Err(WireFault::OutOfMemory) => Err(AskStatus::OutOfMemory),
+        Err(_) => Err(AskStatus::BadFrame),
     }
+}
+
+// Sends the opening. A message is as large as any, so each is made in a call of its own.
+#[inline(never)]
+fn send_opening<K: Sink>(version: Version, depth: Depth, sink: &mut K) -> Result<(), PortStop>
+    requires { depth ≤ deepest version }
+    ensures talk { SendsWhole (K.talk sink.old) (K.talk sink.new) result
+        (spelling version (messages.Open (number_of version) depth)) }
+    ensures cause { HasCause K.faults K.wants K.is_sure sink.old sink.new result }
+{
+    let opening = Message::Open {
+        version: version.number(),
+        depth: depth.get(),
+    };
+    encode(&opening, version, sink)
+}
+
+// Sends how many records the other end is to hear.
+#[inline(never)]
+fn send_count<K: Sink>(version: Version, count: u64, sink: &mut K) -> Result<(), PortStop>
+    ensures talk { SendsWhole (K.talk sink.old) (K.talk sink.new) result
+        (spelling version (messages.Recall count)) }
+    ensures cause { HasCause K.faults K.wants K.is_sure sink.old sink.new result }
+{
+    encode(&Message::Recall { count }, version, sink)
+}
+
+// Sends both.
+fn recall<K: Sink>(
+    version: Version,
+    depth: Depth,
+    count: u64,
+    sink: &mut K,
+) -> Result<(), PortStop>
+    requires { depth ≤ deepest version }
+    ensures talk { SendsWhole (K.talk sink.old) (K.talk sink.new) result
+        (recall_bytes version depth count) }
+    ensures cause { HasCause K.faults K.wants K.is_sure sink.old sink.new result }
+{
+    send_opening(version, depth, sink)?;
+    send_count(version, count, sink)
 }
 
 // Hears what the other end holds.
@@ -48,13 +94,10 @@ fn hear_held<L: Link>(
         → Rose (L.wants link.old) (L.wants link.new) }
     ensures link { Lasts L.faults L.wants L.is_sure link.old link.new }
 {
-    match decode(link, Place::Held, version, frame) {
-        Ok(Message::Held(held)) => Ok(held),
-        Ok(_) => unreachable!(),
-        Err(WireFault::Closed) => Err(AskStatus::PeerClosed),
-        Err(WireFault::PeerFault) => Err(AskStatus::PeerFault),
-        Err(WireFault::OutOfMemory) => Err(AskStatus::OutOfMemory),
-        Err(_) => Err(AskStatus::BadFrame),
+    on_frame(decode_within(link, Place::Held, version, frame))?;
+    match frame.message() {
+        Message::Held(held) => Ok(*held),
+        _ => unreachable!(),
     }
 }
 
@@ -80,12 +123,7 @@ pub(crate) fn open<L: Link>(
         → Rose (L.wants link.old) (L.wants link.new) }
     ensures link { Lasts L.faults L.wants L.is_sure link.old link.new }
 {
-    let opening = Message::Open {
-        version: version.number(),
-        depth: depth.get(),
-    };
-    on_link(encode(&opening, version, link))?;
-    on_link(encode(&Message::Recall { count: tally.count }, version, link))?;
+    on_link(recall(version, depth, tally.count, link))?;
     let held = hear_held(version, link, frame)?;
     let kept = held_by(tally);
     if held != kept {

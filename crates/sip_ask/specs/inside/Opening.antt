@@ -2,14 +2,14 @@
 use Rattle.std.specs.Prelude.{◌≡◌, ◌≢◌, ◌⊎◌, ℕ, List, ◌∷◌, [], ◌++◌, Result, Ok, Err}
 use Rattle.std.specs.declared.option.Option.{Option}
 use Rattle.sip_ports.specs.Ports.{GoesOn, ins}
-use Rattle.sip_ports.specs.declared.port.PortStop.{PortStop}
-use Rattle.sip_ports.specs.declared.port.PortStop.TheVariants as stops
 use Rattle.sip_ports.specs.declared.port.TalkEvent.{TalkEvent}
 use Rattle.sip_ports.specs.declared.port.TalkEvent.TheVariants.{Ended}
 use Rattle.sip_vector.specs.declared.tally.Tally.{Tally}
+use Rattle.sip_wire.specs.Faults.{IsOfBytes}
 use Rattle.sip_wire.specs.Reading.{read_frame}
 use Rattle.sip_wire.specs.declared.kind.Place.TheVariants as places
 use Rattle.sip_wire.specs.declared.message.Held.{Held}
+use Rattle.sip_wire.specs.declared.message.WireFault.{WireFault}
 use Rattle.sip_wire.specs.declared.message.WireFault.TheVariants as faults
 use Rattle.sip_wire.specs.declared.version.Version.{Version}
 use Rattle.sip_replies.specs.Talks.{IsPrefix}
@@ -17,10 +17,12 @@ use Rattle.sip_ask.specs.Turns.{held_by, held_heard, recall_sent}
 use Rattle.sip_ask.specs.declared.status.AskStatus.{AskStatus}
 use Rattle.sip_ask.specs.declared.status.AskStatus.TheVariants as statuses
 
--- the status where sending stopped so
-abbrev pub of_stop : PortStop → AskStatus
-of_stop stops.Failed = statuses.PeerFault
-of_stop stops.OutOfMemory = statuses.OutOfMemory
+-- the status where the frame that is due has this fault
+abbrev pub of_fault : WireFault → AskStatus
+of_fault faults.Closed = statuses.PeerClosed
+of_fault faults.PeerFault = statuses.PeerFault
+of_fault faults.OutOfMemory = statuses.OutOfMemory
+of_fault _ = statuses.BadFrame
 
 -- a front of the frame that is due came
 pub record HearsFront (version : Version) (old new : Option (List TalkEvent))
@@ -33,8 +35,9 @@ pub record HearsFront (version : Version) (old new : Option (List TalkEvent))
 pub record HearsOther (version : Version) (old new : Option (List TalkEvent)) : Type 0 where
   pub bytes : List ℕ
   pub talk : GoesOn old new (ins bytes)
-  pub other : (read_frame version places.Held bytes ≡ Err faults.BadKind)
-      ⊎ (read_frame version places.Held bytes ≡ Err faults.BadLength)
+  pub fault : WireFault
+  pub of_bytes : IsOfBytes fault
+  pub other : read_frame version places.Held bytes ≡ Err fault
 
 abbrev pub HearsHeld : Version → Option (List TalkEvent) → Option (List TalkEvent)
     → Result Held AskStatus → Type 0

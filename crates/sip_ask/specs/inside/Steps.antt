@@ -1,16 +1,13 @@
 -- Steps of an ask behind its opening.
 use Rattle.std.specs.Prelude.{◌≡◌, ◌⊎◌, ℕ, ◌<◌, ◌≤◌, false, IsTrue, ⊤, List, [], ◌∷◌, length, map}
-use Rattle.std.specs.Prelude.{take, None, Some, Result, Ok, Err, vec_capacity}
+use Rattle.std.specs.Prelude.{None, Some, Result, Ok, Err, vec_capacity}
 use Rattle.std.specs.declared.option.Option.{Option}
 use Rattle.sip_ports.specs.Desk.{Loads}
-use Rattle.sip_ports.specs.Ports.{GoesOn, outs}
+use Rattle.sip_ports.specs.Ports.{GoesOn, SendsWhole}
 use Rattle.sip_ports.specs.declared.port.TalkEvent.{TalkEvent}
 use Rattle.sip_vector.specs.Answers.{pairs}
 use Rattle.sip_vector.specs.declared.tally.Tally.{Tally}
 use Rattle.sip_verifier.specs.Reports.{line}
-use Rattle.sip_verifier.specs.declared.status.Port.TheVariants as run_ports
-use Rattle.sip_verifier.specs.declared.status.Status.{Status}
-use Rattle.sip_verifier.specs.declared.status.Status.TheVariants as runs
 use Rattle.sip_verifier.specs.runs.Askers.{IsFirst, Remaining, behind}
 use Rattle.sip_questions.specs.Questions.{version_for}
 use Rattle.sip_questions.specs.Sittings.{ask_at, remaining_of}
@@ -61,40 +58,24 @@ Stores s (Some place) old new (Ok _) = IsStored s place old new
 Stores s (Some place) old new (Err _) =
     IsStoredInPart s place old new ⊎ IsStored s place old new
 
--- ---- what a run of questions came to
-
--- the status of an ask, by that of a run of questions that stopped so
-abbrev pub stopped : Status → AskStatus
-stopped (runs.Rejected query round reason) = statuses.Rejected query round reason
-stopped (runs.WriteFault port) = statuses.WriteFault ports.Report
-stopped runs.PeerFault = statuses.PeerFault
-stopped _ = statuses.OutOfMemory
-
-abbrev pub of_run : Result (Unit {0}) Status → Result (Unit {0}) AskStatus
-of_run (Ok done) = Ok done
-of_run (Err status) = Err (stopped status)
-
 -- ---- a question that is answered without being asked
 
 -- it asks for large entries, which are larger than all of a side: only such a question is
 abbrev pub IsIdle : Question → Type 0
 IsIdle question = (t : Tally) × IsTrue (is_idle t question)
 
--- a front of a line was written that is shorter than it
-abbrev pub IsCutLine : Option (List TalkEvent) → Option (List TalkEvent) → List ℕ → Type 0
-IsCutLine blank full text =
-    (n : ℕ) × (n < length text) × GoesOn blank full (outs (take n text))
-
--- its line was written, which says that there is no entry
+-- its line was written, which says that there is no entry, or a shorter front of it
 abbrev pub SaysNone : Question → Option (List TalkEvent) → Option (List TalkEvent)
-    → Result (Unit {0}) Status → Type 0
-SaysNone (questions.Query query) blank full (Ok _) =
-    GoesOn blank full (outs (line query (pairs [])))
-SaysNone (questions.Query query) blank full (Err (runs.WriteFault run_ports.Report)) =
-    IsCutLine blank full (line query (pairs []))
-SaysNone (questions.Query query) blank full (Err runs.OutOfMemory) =
-    IsCutLine blank full (line query (pairs []))
-SaysNone _ blank full _ = ⊥
+    → Result (Unit {0}) AskStatus → Type 0
+SaysNone (questions.Query query) blank full result =
+    SendsWhole blank full result (line query (pairs []))
+SaysNone _ blank full result = ⊥
+
+-- only the report stopped
+abbrev pub IsReportStop : AskStatus → Type 0
+IsReportStop (statuses.WriteFault ports.Report) = ⊤
+IsReportStop statuses.OutOfMemory = ⊤
+IsReportStop _ = ⊥
 
 -- ---- what is left to be asked
 
