@@ -26,7 +26,7 @@ use Rattle.sip_ask.specs.Turns.{recall_bytes, recall_sent}
 use Rattle.sip_ask.specs.declared.status.AskStatus.{AskStatus}
 use Rattle.sip_ask.specs.declared.status.AskStatus.TheVariants as statuses
 use Rattle.sip_ask.specs.inside.Ending.{of_link}
-use Rattle.sip_ask.specs.inside.Opening.{HearsHeld, HearsOther, OpensWith, of_fault}
+use Rattle.sip_ask.specs.inside.Opening.{HearsHeld, HearsOther, IsCutShort, OpensWith, of_fault}
 
 -- no other message may stand where this one is due
 pub is_held : (m : Message) → IsTrue (allows places.Held (kind_of m)) → (held : Held) × (m ≡ messages.Held held)
@@ -108,15 +108,15 @@ module _ (version : Version) (depth : ℕ) (t : Tally) (old mid new : Option (Li
   pub cut_short : (stop : PortStop) (status : AskStatus) → status ≡ of_link stop → (n : ℕ) → GoesOn old new (outs (take n (recall_bytes version depth t.count))) → OpensWith version depth t old new (Err status)
   cut_short stop status same n went = rw same (by_stop stop)
     where
-      abbrev bytes : List ℕ
-      bytes = recall_bytes version depth t.count
+      joined : recall_sent version depth t.count ≡ outs (take n (recall_bytes version depth t.count)) ++ outs (drop n (recall_bytes version depth t.count))
+      joined = ap outs (sym (take-append-drop n (recall_bytes version depth t.count))) ∙ outs-append (take n (recall_bytes version depth t.count)) (drop n (recall_bytes version depth t.count))
 
-      joined : recall_sent version depth t.count ≡ outs (take n bytes) ++ outs (drop n bytes)
-      joined = ap outs (sym (take-append-drop n bytes)) ∙ outs-append (take n bytes) (drop n bytes)
+      short : IsCutShort version depth t old new
+      short = record { events = outs (take n (recall_bytes version depth t.count)); front = (outs (drop n (recall_bytes version depth t.count)), joined); talk = went }
 
       by_stop : (stop : PortStop) → OpensWith version depth t old new (Err (of_link stop))
-      by_stop stops.Failed = inl (record { events = outs (take n bytes); front = (outs (drop n bytes), joined); talk = went })
-      by_stop stops.OutOfMemory = inl (record { events = outs (take n bytes); front = (outs (drop n bytes), joined); talk = went })
+      by_stop stops.Failed = inl short
+      by_stop stops.OutOfMemory = inl short
 
   module _ (sent : GoesOn old mid (recall_sent version depth t.count)) where
     -- what is due behind it was not heard
