@@ -5,8 +5,8 @@
 //! answer to a second one on them accepted. So the file with the seat used is stored before a byte
 //! of the question is sent.
 //!
-//! So far the crate says what an ask is, and what holds of it; no call asks yet. [`choose`] says which
-//! seats questions would take.
+//! [`ask`] does all of that for some questions, over a desk: a link to where the stream is kept, and
+//! the file. [`choose`] says which seats they would take.
 //!
 //! # What is proved
 //!
@@ -27,6 +27,8 @@
 //! | `Choosing` | which seat each question takes, and why nothing is asked |
 //! | `Marking` | a sketch with used seats, and which contents of the file have a seat used |
 //! | `Turns` | in which order the file and the link are used |
+//! | `Asking` | what an ask did, by its status |
+//! | `Promises` | what it promises: that of a run of questions over the stream |
 //! | `Runs` | runs over one file, each cut off somewhere, and that no seat serves two questions |
 //! | `Counting` | what may become of each seat, and which wrong answers are counted |
 //! | `Examples` | what the examples work out |
@@ -34,10 +36,14 @@
 //! [`examples`] works out which seats questions take, and the file of a sketch with a used seat.
 #![tactic(auto)]
 
+mod ask;
+mod asking;
 mod choosing;
 pub mod examples;
 pub mod laws;
+mod opening;
 mod status;
 
+pub use ask::ask;
 pub use choosing::{Places, choose};
 pub use status::{AskPort, AskStatus};

@@ -4,6 +4,7 @@ use Rattle.sip_ports.specs.declared.port.PortStop.{PortStop}
 use Rattle.sip_ports.specs.declared.port.PortStop.TheVariants as port_stops
 use Rattle.sip_ports.specs.declared.port.TalkEvent.{TalkEvent}
 use Rattle.sip_ports.specs.Ports.{GoesOn, Rose, heard, ins, outs}
+use Rattle.sip_ports.proofs.DeskLemmas.{IsOfLink-append, IsOfLink-ins, IsOfLink-outs}
 use Rattle.sip_ports.proofs.TalkLemmas.{GoesOn-refl, heard-append, heard-ins, heard-outs}
 use Rattle.sip_wire.specs.declared.message.Reason.{Reason}
 use Rattle.sip_wire.specs.declared.version.Version.{Version}
@@ -23,6 +24,7 @@ use Rattle.sip_verifier.specs.Snapshots.{SinkState, between}
 use Rattle.sip_verifier.proofs.KeptAsks.{fault_keeps}
 use Rattle.sip_verifier.proofs.KeptQueries.{all_of_whole, asked_then, frames_of_whole, front_of_all, whole_then}
 use Rattle.sip_verifier.proofs.KeptReplies.{heard-ended, heard-ending}
+use Rattle.sip_verifier.proofs.TalksOfLink.{ended_of_link, ending_of_link}
 use Rattle.sip_lookup.specs.Frames.{read_found}
 use Rattle.sip_lookup.specs.Hearing.{HearsFound, IsFound, stop_of_link}
 
@@ -33,6 +35,7 @@ module _ (version : Version) where
   pub sent_kept : (old mid before : Option (List TalkEvent)) (bytes : List ℕ) → GoesOn old mid (outs bytes) → WholeIsKept old mid before before version
   sent_kept old mid before bytes went = record {
     said = outs bytes;
+    link = IsOfLink-outs bytes;
     talk = went;
     frames = subst (AreFrames version) (sym (heard-outs bytes)) (AreFrames-none version);
     wrote = subst (λ (l : List ℕ). GoesOn before before (outs l)) (sym (heard-outs bytes)) (GoesOn-refl before);
@@ -47,6 +50,7 @@ module _ (version : Version) where
         let same = sym (heard-ins c.bytes) in
         record {
           said = ins c.bytes;
+          link = IsOfLink-ins c.bytes;
           talk = c.heard;
           frames = subst (AreFrames version) same c.frames;
           wrote = subst (λ (l : List ℕ). GoesOn before now (outs l)) same c.kept;
@@ -60,16 +64,18 @@ module _ (version : Version) where
     faulty_kept : (reason : Reason) → HasFault version (read_found version) old new before now reason → AllIsKept old new before now
     faulty_kept reason h = record {
       said = ins h.bytes ++ ending reason;
+      link = IsOfLink-append (ins h.bytes) (ending reason) (IsOfLink-ins h.bytes) (ending_of_link reason);
       talk = h.heard;
       wrote = subst (λ (l : List ℕ). GoesOn before now (outs l)) (heard_to h.bytes (ending reason) (heard-ending reason)) h.kept;
     }
 
     part_kept : IsPart version (read_found version) old new before now → FramesAreKept old new before now version
-    part_kept p = record { said = ins p.bytes; talk = p.heard; wrote = subst (KeepsFrames version before now) (sym (heard-ins p.bytes)) p.kept }
+    part_kept p = record { said = ins p.bytes; link = IsOfLink-ins p.bytes; talk = p.heard; wrote = subst (KeepsFrames version before now) (sym (heard-ins p.bytes)) p.kept }
 
     part_front : IsPart version (read_found version) old new before now → FrontIsKept old new before now
     part_front p = record {
       said = ins p.bytes;
+      link = IsOfLink-ins p.bytes;
       talk = p.heard;
       wrote = subst (KeepsPart before now) (sym (heard-ins p.bytes)) (p.kept.whole, (p.kept.part, p.kept.split), p.kept.kept);
     }
@@ -77,6 +83,7 @@ module _ (version : Version) where
     unkept_front : IsUnkept version (read_found version) old new before now → FrontIsKept old new before now
     unkept_front u = record {
       said = ins u.bytes ++ u.ended;
+      link = IsOfLink-append (ins u.bytes) u.ended (IsOfLink-ins u.bytes) (ended_of_link u.ended u.may_end);
       talk = u.heard;
       wrote = subst (KeepsPart before now) (heard_to u.bytes u.ended (heard-ended u.ended u.may_end)) u.kept;
     }

@@ -4,6 +4,7 @@ use Rattle.sip_ports.specs.declared.port.PortStop.{PortStop}
 use Rattle.sip_ports.specs.declared.port.PortStop.TheVariants as port_stops
 use Rattle.sip_ports.specs.declared.port.TalkEvent.{TalkEvent}
 use Rattle.sip_ports.specs.Ports.{GoesOn, SendsWhole, heard, outs}
+use Rattle.sip_ports.proofs.DeskLemmas.{IsOfLink-append, IsOfLink-outs}
 use Rattle.sip_ports.proofs.TalkLemmas.{GoesOn-refl, GoesOn-trans, heard-append, heard-outs, outs-append}
 use Rattle.sip_wire.specs.declared.kind.Place.TheVariants as places
 use Rattle.sip_wire.specs.declared.version.Version.{Version}
@@ -26,17 +27,18 @@ use Rattle.sip_verifier.proofs.QueriesChecked.{OnLink, OnReport}
 module _ (old new before now : Option (List TalkEvent)) where
   -- all of it is a front of it
   pub front_of_all : AllIsKept old new before now → FrontIsKept old new before now
-  front_of_all a = record { said = a.said; talk = a.talk; wrote = (heard a.said, ([], sym (append-nil (heard a.said))), a.wrote) }
+  front_of_all a = record { said = a.said; link = a.link; talk = a.talk; wrote = (heard a.said, ([], sym (append-nil (heard a.said))), a.wrote) }
 
   module _ (version : Version) where
     -- whole frames are all
     pub all_of_whole : WholeIsKept old new before now version → AllIsKept old new before now
-    all_of_whole w = record { said = w.said; talk = w.talk; wrote = w.wrote }
+    all_of_whole w = record { said = w.said; link = w.link; talk = w.talk; wrote = w.wrote }
 
     -- and behind them nothing came
     pub frames_of_whole : WholeIsKept old new before now version → FramesAreKept old new before now version
     frames_of_whole w = record {
       said = w.said;
+      link = w.link;
       talk = w.talk;
       wrote = record {
         whole = heard w.said;
@@ -66,7 +68,7 @@ module _ (old new before now : Option (List TalkEvent)) where
 
 -- before the first one
 pub none_kept : (version : Version) (old before : Option (List TalkEvent)) → WholeIsKept old old before before version
-none_kept version old before = record { said = []; talk = GoesOn-refl old; frames = AreFrames-none version; wrote = GoesOn-refl before }
+none_kept version old before = record { said = []; link = tt; talk = GoesOn-refl old; frames = AreFrames-none version; wrote = GoesOn-refl before }
 
 module _ (version : Version) (old mid new before during now : Option (List TalkEvent)) (a : WholeIsKept old mid before during version) where
   -- what was said then follows, and what was kept then
@@ -83,6 +85,7 @@ module _ (version : Version) (old mid new before during now : Option (List TalkE
   all_then : AllIsKept mid new during now → AllIsKept old new before now
   all_then b = record {
     said = a.said ++ b.said;
+    link = IsOfLink-append a.said b.said a.link b.link;
     talk = talk_then b.said b.talk;
     wrote = subst (λ (l : List ℕ). GoesOn before now (outs l)) (sym (heard-append a.said b.said)) (wrote_then (heard b.said) b.wrote);
   }
@@ -92,6 +95,7 @@ module _ (version : Version) (old mid new before during now : Option (List TalkE
       let both = sym (heard-append a.said b.said) in
       record {
         said = a.said ++ b.said;
+        link = IsOfLink-append a.said b.said a.link b.link;
         talk = talk_then b.said b.talk;
         frames = subst (AreFrames version) both (AreFrames-append version (heard a.said) (heard b.said) a.frames b.frames);
         wrote = subst (λ (l : List ℕ). GoesOn before now (outs l)) both (wrote_then (heard b.said) b.wrote);
@@ -102,6 +106,7 @@ module _ (version : Version) (old mid new before during now : Option (List TalkE
       let k = f.wrote in
       record {
         said = a.said ++ f.said;
+        link = IsOfLink-append a.said f.said a.link f.link;
         talk = talk_then f.said f.talk;
         wrote = record {
           whole = heard a.said ++ k.whole;
@@ -118,6 +123,7 @@ module _ (version : Version) (old mid new before during now : Option (List TalkE
       let (part, (more, is), wrote) = f.wrote in
       record {
         said = a.said ++ f.said;
+        link = IsOfLink-append a.said f.said a.link f.link;
         talk = talk_then f.said f.talk;
         wrote = (heard a.said ++ part, (more, split_then f.said part more is), wrote_then part wrote);
       }
@@ -150,6 +156,7 @@ module _ (version : Version) (old mid new before now : Option (List TalkEvent)) 
       let same = sym (heard-append a.said (outs bytes) ∙ ap (λ (l : List ℕ). heard a.said ++ l) (heard-outs bytes) ∙ append-nil (heard a.said)) in
       record {
         said = a.said ++ outs bytes;
+        link = IsOfLink-append a.said (outs bytes) a.link (IsOfLink-outs bytes);
         talk = GoesOn-trans old mid new a.said (outs bytes) a.talk went;
         frames = subst (AreFrames version) same a.frames;
         wrote = subst (λ (l : List ℕ). GoesOn before now (outs l)) same a.wrote;

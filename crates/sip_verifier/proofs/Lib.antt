@@ -38,6 +38,7 @@ pub mod JointReports
 pub mod Blocks
 pub mod HeardTalks
 pub mod KeptHead
+pub mod TalksOfLink
 pub mod KeptReplies
 pub mod KeptQueries
 pub mod ListedStops

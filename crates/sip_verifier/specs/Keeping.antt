@@ -1,6 +1,7 @@
 -- What is kept of a talk while it is led.
 use Rattle.std.specs.Prelude.{◌≡◌, ◌⊎◌, ℕ, List, Option, Some, Result, Ok, Err}
 use Rattle.sip_ports.specs.declared.port.TalkEvent.{TalkEvent}
+use Rattle.sip_ports.specs.Desk.{IsOfLink}
 use Rattle.sip_ports.specs.Ports.{GoesOn, heard, outs}
 use Rattle.sip_replies.specs.Asking.{AreFrames, KeepsFrames, KeepsPart}
 use Rattle.sip_wire.specs.declared.version.Version.{Version}
@@ -41,18 +42,21 @@ module _ (task : Task) (seed : List ℕ) (before now : Option (List TalkEvent)) 
   KeepsHead (Err statuses.OutOfMemory) = (now ≡ before) ⊎ HeadIsCut
   KeepsHead (Err _) = HeadIsKept
 
--- ---- what was received for a query, and for all of them
+-- ---- what was received for a query, and for all of them: where the link is that of a desk, nothing
+-- was done to its file
 
 module _ (old new before now : Option (List TalkEvent)) where
   -- all was kept that was heard
   pub record AllIsKept : Type 0 where
     pub said : List TalkEvent
+    pub link : IsOfLink said
     pub talk : GoesOn old new said
     pub wrote : GoesOn before now (outs (heard said))
 
   -- a front of it was kept
   pub record FrontIsKept : Type 0 where
     pub said : List TalkEvent
+    pub link : IsOfLink said
     pub talk : GoesOn old new said
     pub wrote : KeepsPart before now (heard said)
 
@@ -60,6 +64,7 @@ module _ (old new before now : Option (List TalkEvent)) where
     -- all was kept that was heard, and it was whole frames
     pub record WholeIsKept : Type 0 where
       pub said : List TalkEvent
+      pub link : IsOfLink said
       pub talk : GoesOn old new said
       pub frames : AreFrames version (heard said)
       pub wrote : GoesOn before now (outs (heard said))
@@ -67,6 +72,7 @@ module _ (old new before now : Option (List TalkEvent)) where
     -- the frames were kept that were heard whole, and nothing of one that was not
     pub record FramesAreKept : Type 0 where
       pub said : List TalkEvent
+      pub link : IsOfLink said
       pub talk : GoesOn old new said
       pub wrote : KeepsFrames version before now (heard said)
 
