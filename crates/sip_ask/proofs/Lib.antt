@@ -1,3 +1,4 @@
+mod Chosen
 mod Contents
 mod Counted
 mod Fooled
