@@ -6,4 +6,5 @@ mod Marks
 mod Premises
 mod Saying
 mod Seats
+mod Served
 mod Tested
