@@ -1,18 +1,16 @@
 -- What a call did that asks questions of the sketch of a desk.
-use Rattle.std.specs.Prelude.{◌≡◌, ◌≢◌, ◌⊎◌, ℕ, suc, ◌<◌, List, [], ◌∷◌, ◌++◌, length, take, Some}
-use Rattle.std.specs.Prelude.{None, Result, Ok, Err}
+use Rattle.std.specs.Prelude.{◌≡◌, ◌≢◌, ◌⊎◌, ℕ, suc, ◌<◌, List, [], ◌∷◌, ◌++◌, length, take}
+use Rattle.std.specs.Prelude.{Some, None, Result, Ok, Err}
 use Rattle.std.specs.declared.option.Option.{Option}
-use Rattle.sip_ports.specs.Desk.{Loads, steps}
+use Rattle.sip_ports.specs.Desk.{IsOfLink, Loads, steps}
 use Rattle.sip_ports.specs.Ports.{GoesOn, ins, outs}
 use Rattle.sip_ports.specs.declared.port.TalkEvent.{TalkEvent}
 use Rattle.sip_ports.specs.declared.port.TalkEvent.TheVariants.{Ended}
 use Rattle.sip_vector.specs.Answers.{pairs}
 use Rattle.sip_vector.specs.declared.update.Update.{Update}
 use Rattle.sip_wire.specs.Reading.{read_frame}
-use Rattle.sip_wire.specs.Spelling.{spelling}
 use Rattle.sip_wire.specs.declared.kind.Place.TheVariants as wire_places
 use Rattle.sip_wire.specs.declared.message.Held.{Held}
-use Rattle.sip_wire.specs.declared.message.Message.TheVariants as messages
 use Rattle.sip_wire.specs.declared.message.WireFault.TheVariants as faults
 use Rattle.sip_wire.specs.declared.version.Version.{Version}
 use Rattle.sip_replies.specs.Talks.{IsPrefix}
@@ -29,7 +27,7 @@ use Rattle.sip_sketch.specs.Sketches.{IsSketch, SketchValues, spelled_file}
 use Rattle.sip_sketch.specs.Standing.{Stands}
 use Rattle.sip_ask.specs.Choosing.{choice}
 use Rattle.sip_ask.specs.Marking.{mark}
-use Rattle.sip_ask.specs.Turns.{block_at, held_by, held_heard, recall_sent}
+use Rattle.sip_ask.specs.Turns.{IsFarewell, block_at, held_by, held_heard, recall_sent}
 use Rattle.sip_ask.specs.declared.status.AskPort.TheVariants as ports
 use Rattle.sip_ask.specs.declared.status.AskStatus.{AskStatus}
 use Rattle.sip_ask.specs.declared.status.AskStatus.TheVariants as statuses
@@ -39,6 +37,39 @@ abbrev pub marked_by : Option ℕ → SketchValues → SketchValues
 marked_by None s = s
 marked_by (Some place) s = mark place s
 
+-- ---- what was stored
+
+-- what replaces the file where a question takes the seat at this place: the sketch with that used
+abbrev pub steps_of : SketchValues → ℕ → List TalkEvent
+steps_of s place = steps (spelled_file (mark place s))
+
+module _ (s : SketchValues) (place : ℕ) (old new : Option (List TalkEvent)) where
+  -- all steps of it were taken, so that no crash leaves the seat unused, and then only the link was
+  -- used
+  pub record IsStored : Type 0 where
+    pub said : List TalkEvent
+    pub link : IsOfLink said
+    pub talk : GoesOn old new (steps_of s place ++ said)
+
+  -- a shorter front of them was taken, and nothing was said
+  pub record IsStoredInPart : Type 0 where
+    pub count : ℕ
+    pub short : count < length (steps_of s place)
+    pub talk : GoesOn old new (take count (steps_of s place))
+
+-- Whatever the sketch is of: for each question in order that takes a seat the file with that seat
+-- used was stored, and then only was something said; it may have stopped at any of them. Behind the
+-- last one a front of the farewell was said.
+abbrev pub StoresFirst : Version → SketchValues → List (Option ℕ) → Option (List TalkEvent)
+    → Option (List TalkEvent) → Type 0
+StoresFirst version s [] old new =
+    (said : List TalkEvent) × IsFarewell version said × GoesOn old new said
+StoresFirst version s (None ∷ places) old new = StoresFirst version s places old new
+StoresFirst version s (Some place ∷ places) old new =
+    IsStoredInPart s place old new ⊎ IsStored s place old new
+    ⊎ ((mid : Option (List TalkEvent)) × IsStored s place old mid
+    × StoresFirst version (mark place s) places mid new)
+
 -- ---- one question, which has this number, in a manner of asking, of this sketch
 
 module _ (m : Manner Question Answered) (s : SketchValues) (number : ℕ) (question : Question)
@@ -46,15 +77,12 @@ module _ (m : Manner Question Answered) (s : SketchValues) (number : ℕ) (quest
   -- the sketch with its seat used was stored, and then this came of the question
   pub record IsAskedOn (place : ℕ) (result : Result (Unit {0}) Status) : Type 0 where
     pub mid : Option (List TalkEvent)
-    pub stored : GoesOn old mid (steps (spelled_file (mark place s)))
+    pub stored : GoesOn old mid (steps_of s place)
     pub checks : Checks m question (block_at place s.seats) number mid new blank full result
 
   -- storing it stopped before its last step, and nothing was said or written
-  pub record IsUnmarked (place : ℕ) : Type 0 where
-    pub count : ℕ
-    pub short : count < length (steps (spelled_file (mark place s)))
-    pub talk : GoesOn old new (take count (steps (spelled_file (mark place s))))
-    pub same : GoesOn blank full []
+  abbrev pub IsUnmarked : ℕ → Type 0
+  IsUnmarked place = IsStoredInPart s place old new × GoesOn blank full []
 
   -- nothing is asked: the line says that there is no entry, or a front of it was written
   abbrev pub IsLined : Type 0
@@ -108,12 +136,14 @@ AsksAll version m s number (question ∷ more) (place ∷ places) old new blank 
     ⊎ ((status : AskStatus) × (result ≡ Err status)
     × Came m s number question old new blank full place (Err status))
 
+-- ---- a call
+
 -- the status as what asking came to
 abbrev pub as_result : AskStatus → Result (Unit {0}) AskStatus
 as_result statuses.Accepted = Ok tt
 as_result status = Err status
 
--- ---- a call, over a file that started so, a desk and a report
+-- over a file that started so, a desk and a report
 
 module _ (asked : List Question) (start : Option (List ℕ))
     (old new blank full : Option (List TalkEvent)) where
@@ -159,8 +189,8 @@ module _ (asked : List Question) (start : Option (List ℕ))
       (events ≡ recall_sent version s.depth s.tally.count ++ held_heard version held)
       × (kept ≡ held_by s.tally) × (held ≢ kept)
 
-  -- The other end holds what the sketch is of, and then all questions were asked in order, whatever
-  -- the stream is that the sketch stands for.
+  -- The other end holds what the sketch is of, and then all questions were asked in order, each
+  -- behind the file in which its seat is used: about any stream that the sketch stands for.
   pub record IsInTalk (status : AskStatus) : Type 0 where
     pub s : SketchValues
     pub places : List (Option ℕ)
@@ -169,6 +199,7 @@ module _ (asked : List Question) (start : Option (List ℕ))
     pub mid : Option (List TalkEvent)
     pub opened : GoesOn old mid (recall_sent (version_for s.depth asked) s.depth s.tally.count
         ++ held_heard (version_for s.depth asked) (held_by s.tally))
+    pub stores : StoresFirst (version_for s.depth asked) s places mid new
     pub asks : (stream : List Update) → Stands stream s
         → AsksAll (version_for s.depth asked) (asking (version_for s.depth asked) s.depth stream)
         s 1 asked places mid new blank full (as_result status)

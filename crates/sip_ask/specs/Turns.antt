@@ -3,11 +3,10 @@
 -- What the other end holds is asked for first, and nothing that is sent up to there depends on a
 -- challenge. Then each question has a turn: the sketch with its seat used is stored, and only when
 -- no crash can undo that the question is sent. At last the link is told that this was all.
-use Rattle.std.specs.Prelude.{◌≡◌, ◌⊎◌, ℕ, zero, suc, ◌-◌, ◌<◌, false, nat_lt, ⊤, List, [], ◌∷◌}
-use Rattle.std.specs.Prelude.{◌++◌, length, take, flat_map, None, Some, if◌then◌else◌}
-use Rattle.std.specs.declared.option.Option.{Option}
+use Rattle.std.specs.Prelude.{◌≡◌, ℕ, zero, suc, ◌-◌, ◌<◌, false, nat_lt, ⊤, List, [], ◌∷◌, ◌++◌}
+use Rattle.std.specs.Prelude.{length, flat_map, if◌then◌else◌}
 use Rattle.sip_ports.specs.Desk.{IsOfLink, steps}
-use Rattle.sip_ports.specs.Ports.{GoesOn, ins, outs, written}
+use Rattle.sip_ports.specs.Ports.{ins, outs, written}
 use Rattle.sip_ports.specs.declared.port.TalkEvent.{TalkEvent}
 use Rattle.sip_vector.specs.declared.tally.Tally.{Tally}
 use Rattle.sip_wire.specs.Spelling.{spelling}
@@ -68,21 +67,6 @@ pub record IsOpening (version : Version) (s : SketchValues) (opened : List TalkE
 pub record IsFarewell (version : Version) (behind : List TalkEvent) : Type 0 where
   pub link : IsOfLink behind
   pub sent : IsPrefix (written behind) (spelling version messages.Bye)
-
--- For each question that takes a seat, in order, the sketch with that seat used was stored, and only
--- then was the link used for it, and nothing else. It may have stopped anywhere. Behind the last
--- one there is nothing but the farewell.
-abbrev pub StoresFirst : Version → SketchValues → List (Option ℕ) → Option (List TalkEvent)
-    → Option (List TalkEvent) → Type 0
-StoresFirst version s [] old new =
-    (behind : List TalkEvent) × IsFarewell version behind × GoesOn old new behind
-StoresFirst version s (None ∷ places) old new = StoresFirst version s places old new
-StoresFirst version s (Some place ∷ places) old new =
-    ((n : ℕ) × (n < length (steps (spelled_file (mark place s))))
-    × GoesOn old new (take n (steps (spelled_file (mark place s)))))
-    ⊎ ((mid : Option (List TalkEvent)) × (said : List TalkEvent) × IsOfLink said
-    × GoesOn old mid (steps (spelled_file (mark place s)) ++ said)
-    × StoresFirst version (mark place s) places mid new)
 
 -- the seats of the turns in which something was said, where so many events came of them
 abbrev pub places_said : ℕ → List Turn → List ℕ

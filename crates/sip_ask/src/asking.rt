@@ -1,22 +1,24 @@
 //! The questions of an ask, each behind the file in which its seat is used.
 
-ghost use Rattle.std.specs.Prelude.{◌≡◌, ◌<◌, ◌≤◌, List, Some, Err, OnOk, false, length};
+ghost use Rattle.std.specs.Prelude.{◌≡◌, ◌<◌, ◌≤◌, List, Some, OnOk, IfErr, false, length};
 ghost use Rattle.std.specs.Prelude.{vec_capacity};
-ghost use Rattle.sip_ports.specs.Ports.{Lasts, Rose};
+ghost use Rattle.sip_ports.specs.Ports.{Lasts};
 ghost use Rattle.sip_vector.specs.declared.update.Update.{Update as AnyUpdate};
-ghost use Rattle.sip_verifier.specs.declared.status.Port.TheVariants as run_ports;
-ghost use Rattle.sip_verifier.specs.declared.status.Status.TheVariants as runs;
+ghost use Rattle.sip_wire.specs.Table.{most_queries};
+ghost use Rattle.sip_verifier.specs.Statuses.{Stops, stops_asking};
+ghost use Rattle.sip_verifier.specs.Snapshots.{counts};
+ghost use Rattle.sip_verifier.specs.runs.Askers.{IsFirst, behind};
 ghost use Rattle.sip_questions.specs.Questions.{asking};
-ghost use Rattle.sip_questions.specs.Sittings.{StandsOn};
+ghost use Rattle.sip_questions.specs.Sittings.{StandsOn, remaining_of};
 ghost use Rattle.sip_questions.specs.declared.question.Question.{Question as AnyQuestion};
 ghost use Rattle.sip_sketch.specs.Sketches.{size_of};
-ghost use Rattle.sip_ask.specs.Asking.{AsksAll, Came};
+ghost use Rattle.sip_ask.specs.Asking.{AsksAll, Came, StoresFirst, marked_by};
+ghost use Rattle.sip_ask.specs.Causes.{HasRisen, IsStop};
 ghost use Rattle.sip_ask.specs.Turns.{block_at};
 ghost use Rattle.sip_ask.specs.Marking.{mark};
-ghost use Rattle.sip_ask.specs.inside.Steps.{GoesBehind, IsIdle, IsMarked, IsNext, SaysNone};
-ghost use Rattle.sip_ask.specs.inside.Steps.{StandsReady, stopped};
+ghost use Rattle.sip_ask.specs.inside.Steps.{IsIdle, IsLive, IsMarked, IsNext, SaysNone};
+ghost use Rattle.sip_ask.specs.inside.Steps.{StandsReady, Stores, behind_turn, of_run};
 
-use crate::choosing::Places;
 use crate::{AskPort, AskStatus};
 use sip_ports::{Desk, DeskStop, NullSink, Sink};
 use sip_questions::{Question, QuestionAsker};
@@ -31,25 +33,26 @@ pub(crate) struct Asking {
     pub(crate) asker: QuestionAsker,
 }
 
-/// The status of an ask, by that of a run of questions that stopped so behind its opening.
-fn stopped(status: Status) -> AskStatus
-    ensures { result ≡ stopped status }
+/// What a part of a run of questions came to behind its opening, as an ask ends by it.
+fn of_run(came: Result<(), Status>) -> Result<(), AskStatus>
+    ensures { result ≡ of_run came }
 {
-    match status {
-        Status::Rejected {
+    match came {
+        Ok(()) => Ok(()),
+        Err(Status::Rejected {
             query,
             round,
             reason,
-        } => AskStatus::Rejected {
+        }) => Err(AskStatus::Rejected {
             query,
             round,
             reason,
-        },
-        Status::WriteFault { .. } => AskStatus::WriteFault {
+        }),
+        Err(Status::WriteFault { .. }) => Err(AskStatus::WriteFault {
             port: AskPort::Report,
-        },
-        Status::PeerFault => AskStatus::PeerFault,
-        _ => AskStatus::OutOfMemory,
+        }),
+        Err(Status::PeerFault) => Err(AskStatus::PeerFault),
+        Err(_) => Err(AskStatus::OutOfMemory),
     }
 }
 
@@ -65,7 +68,8 @@ fn mark<D: Desk>(
     requires room { size_of sketch.old ≤ vec_capacity file.old }
     ensures talk { IsMarked sketch.old place (D.talk desk.old) (D.talk desk.new) result }
     ensures sketch { sketch.new ≡ mark place sketch.old }
-    ensures room { vec_capacity file.old ≤ vec_capacity file.new }
+    ensures room { size_of sketch.new ≤ vec_capacity file.new }
+    ensures cause { IfErr result (HasRisen (D.faults desk.old) (D.faults desk.new) 0 0) }
     ensures start { D.start desk.new ≡ D.start desk.old }
     ensures desk { Lasts D.faults D.wants D.is_sure desk.old desk.new }
 {
@@ -87,8 +91,8 @@ fn mark<D: Desk>(
 fn say_none<K: Sink>(question: &Question, report: &mut K) -> Result<(), Status>
     requires { IsIdle question.now }
     ensures says { SaysNone question.now (K.talk report.old) (K.talk report.new) result }
-    ensures cause { result ≡ Err (runs.WriteFault run_ports.Report)
-        → Rose (K.faults report.old) (K.faults report.new) }
+    ensures cause { Stops stops_asking (counts 0 0 0 (K.faults report.old) 0)
+        (counts 0 0 0 (K.faults report.new) 0) result }
     ensures report { Lasts K.faults K.wants K.is_sure report.old report.new }
 {
     match question {
@@ -107,52 +111,97 @@ impl Asking {
         desk: &mut D,
         report: &mut K,
     ) -> Result<(), AskStatus>
+        requires live { IsLive self.old }
         requires place { place < length self.old.sketch.seats }
-        requires room { size_of self.old.sketch ≤ vec_capacity self.old.file }
-        requires left { 0 < length self.old.asker.left }
-        requires live { self.old.asker.spent ≡ false }
+        requires left { 0 < length (remaining_of self.old.asker).left }
         ensures came { (stream : List AnyUpdate) (question : AnyQuestion)
             → StandsOn stream self.old.asker
-            → IsNext question (block_at place self.old.sketch.seats) self.old.asker
+            → IsFirst (remaining_of self.old.asker)
+            (question, block_at place self.old.sketch.seats)
             → Came (asking self.old.asker.version self.old.asker.depth stream) self.old.sketch
             number question (D.talk desk.old) (D.talk desk.new) (K.talk report.old)
             (K.talk report.new) (Some place) result }
+        ensures stores { Stores self.old.sketch (Some place) (D.talk desk.old) (D.talk desk.new)
+            result }
         ensures sketch { self.new.sketch ≡ mark place self.old.sketch }
-        ensures asker { OnOk result (GoesBehind self.old.asker self.new.asker) }
-        ensures start { D.start desk.new ≡ D.start desk.old }
+        ensures remaining { OnOk result
+            (remaining_of self.new.asker ≡ behind false (remaining_of self.old.asker)) }
+        ensures stands { (stream : List AnyUpdate) → StandsOn stream self.old.asker
+            → StandsOn stream self.new.asker }
+        ensures live { OnOk result (IsLive self.new) }
+        ensures stops { IfErr result IsStop }
+        ensures cause { IfErr result (HasRisen (D.faults desk.old) (D.faults desk.new)
+            (K.faults report.old) (K.faults report.new)) }
         ensures desk { Lasts D.faults D.wants D.is_sure desk.old desk.new }
         ensures report { Lasts K.faults K.wants K.is_sure report.old report.new }
     {
         mark(&mut self.sketch, place, &mut self.file, desk)?;
         let mut keep = NullSink::new();
-        check_next(&mut self.asker, number, desk, report, &mut keep).map_err(stopped)
+        of_run(check_next(&mut self.asker, number, desk, report, &mut keep))
     }
 
-    /// Asks all questions in order, up to the first stop, and says farewell where all were
-    /// accepted.
-    pub(crate) fn ask_all<D: Desk, K: Sink>(
+    /// Asks the next question, which has this number, on the seat at its place; or writes its line,
+    /// where it takes none.
+    fn take_turn<D: Desk, K: Sink>(
         &mut self,
-        questions: &[Question],
-        places: &Places,
+        question: &Question,
+        place: Option<usize>,
+        number: u8,
         desk: &mut D,
         report: &mut K,
     ) -> Result<(), AskStatus>
-        requires { StandsReady questions.now places.now.items self.old }
+        requires live { IsLive self.old }
+        requires next { IsNext self.old question.now place }
+        ensures came { (stream : List AnyUpdate) → StandsOn stream self.old.asker
+            → Came (asking self.old.asker.version self.old.asker.depth stream) self.old.sketch
+            number question.now (D.talk desk.old) (D.talk desk.new) (K.talk report.old)
+            (K.talk report.new) place result }
+        ensures stores { Stores self.old.sketch place (D.talk desk.old) (D.talk desk.new) result }
+        ensures sketch { self.new.sketch ≡ marked_by place self.old.sketch }
+        ensures remaining { OnOk result
+            (remaining_of self.new.asker ≡ behind_turn place (remaining_of self.old.asker)) }
+        ensures stands { (stream : List AnyUpdate) → StandsOn stream self.old.asker
+            → StandsOn stream self.new.asker }
+        ensures live { OnOk result (IsLive self.new) }
+        ensures stops { IfErr result IsStop }
+        ensures cause { IfErr result (HasRisen (D.faults desk.old) (D.faults desk.new)
+            (K.faults report.old) (K.faults report.new)) }
+        ensures desk { Lasts D.faults D.wants D.is_sure desk.old desk.new }
+        ensures report { Lasts K.faults K.wants K.is_sure report.old report.new }
+    {
+        match place {
+            Some(place) => self.ask_on(place, number, desk, report),
+            None => of_run(say_none(question, report)),
+        }
+    }
+
+    /// Asks all questions in order, each on the seat that it takes, up to the first stop, and says
+    /// farewell where all were accepted.
+    pub(crate) fn ask_all<D: Desk, K: Sink>(
+        &mut self,
+        questions: &[Question],
+        places: &[Option<usize>],
+        desk: &mut D,
+        report: &mut K,
+    ) -> Result<(), AskStatus>
+        requires most { length questions.now ≤ most_queries }
+        requires ready { StandsReady questions.now places.now self.old }
         ensures asks { (stream : List AnyUpdate) → StandsOn stream self.old.asker
             → AsksAll self.old.asker.version
             (asking self.old.asker.version self.old.sketch.depth stream) self.old.sketch 1
-            questions.now places.now.items (D.talk desk.old) (D.talk desk.new) (K.talk report.old)
+            questions.now places.now (D.talk desk.old) (D.talk desk.new) (K.talk report.old)
             (K.talk report.new) result }
-        ensures start { D.start desk.new ≡ D.start desk.old }
+        ensures stores { StoresFirst self.old.asker.version self.old.sketch places.now
+            (D.talk desk.old) (D.talk desk.new) }
+        ensures stops { IfErr result IsStop }
+        ensures cause { IfErr result (HasRisen (D.faults desk.old) (D.faults desk.new)
+            (K.faults report.old) (K.faults report.new)) }
         ensures desk { Lasts D.faults D.wants D.is_sure desk.old desk.new }
         ensures report { Lasts K.faults K.wants K.is_sure report.old report.new }
     {
         for (index, place) in places.iter().enumerate() {
-            match place {
-                Some(place) => self.ask_on(*place, index as u8 + 1, desk, report)?,
-                None => say_none(&questions[index], report).map_err(stopped)?,
-            }
+            self.take_turn(&questions[index], *place, index as u8 + 1, desk, report)?;
         }
-        on_link(self.asker.say_farewell(desk)).map_err(stopped)
+        of_run(on_link(self.asker.say_farewell(desk)))
     }
 }

@@ -28,7 +28,6 @@
 //! | `Marking` | a sketch with used seats, and which contents of the file have a seat used |
 //! | `Turns` | in which order the file and the link are used |
 //! | `Asking` | what an ask did, by its status |
-//! | `Promises` | what it promises: that of a run of questions over the stream |
 //! | `Runs` | runs over one file, each cut off somewhere, and that no seat serves two questions |
 //! | `Counting` | what may become of each seat, and which wrong answers are counted |
 //! | `Examples` | what the examples work out |

@@ -1,8 +1,8 @@
 -- Steps of an ask behind its opening.
-use Rattle.std.specs.Prelude.{◌≡◌, ℕ, ◌<◌, ◌≤◌, false, List, [], ◌∷◌, ◌++◌, length, map, take, drop, Result}
-use Rattle.std.specs.Prelude.{◌⊎◌, IsTrue, ⊤, None, Some, Ok, Err, MatchResult, vec_capacity}
+use Rattle.std.specs.Prelude.{◌≡◌, ◌⊎◌, ℕ, ◌<◌, ◌≤◌, false, IsTrue, ⊤, List, [], ◌∷◌, length, map}
+use Rattle.std.specs.Prelude.{take, None, Some, Result, Ok, Err, vec_capacity}
 use Rattle.std.specs.declared.option.Option.{Option}
-use Rattle.sip_ports.specs.Desk.{Loads, steps}
+use Rattle.sip_ports.specs.Desk.{Loads}
 use Rattle.sip_ports.specs.Ports.{GoesOn, outs}
 use Rattle.sip_ports.specs.declared.port.TalkEvent.{TalkEvent}
 use Rattle.sip_vector.specs.Answers.{pairs}
@@ -11,14 +11,15 @@ use Rattle.sip_verifier.specs.Reports.{line}
 use Rattle.sip_verifier.specs.declared.status.Port.TheVariants as run_ports
 use Rattle.sip_verifier.specs.declared.status.Status.{Status}
 use Rattle.sip_verifier.specs.declared.status.Status.TheVariants as runs
+use Rattle.sip_verifier.specs.runs.Askers.{IsFirst, Remaining, behind}
 use Rattle.sip_questions.specs.Questions.{version_for}
-use Rattle.sip_questions.specs.Sittings.{QuestionSitting, ask_at}
+use Rattle.sip_questions.specs.Sittings.{ask_at, remaining_of}
 use Rattle.sip_questions.specs.declared.question.Question.{Question}
 use Rattle.sip_questions.specs.declared.question.Question.TheVariants as questions
 use Rattle.sip_sketch.specs.Loaded.{IsBadFile}
 use Rattle.sip_sketch.specs.Sketches.{IsSketch, SketchValues, size_of, spelled_file}
+use Rattle.sip_ask.specs.Asking.{IsStored, IsStoredInPart, steps_of}
 use Rattle.sip_ask.specs.Choosing.{choice, is_idle}
-use Rattle.sip_ask.specs.Marking.{mark}
 use Rattle.sip_ask.specs.Turns.{block_at}
 use Rattle.sip_ask.specs.declared.asking.Asking.{Asking}
 use Rattle.sip_ask.specs.declared.status.AskPort.TheVariants as ports
@@ -41,17 +42,61 @@ abbrev pub status_of : Result (Unit {0}) AskStatus → AskStatus
 status_of (Ok _) = statuses.Accepted
 status_of (Err status) = status
 
--- the sketch with the seat at this place used was stored
+-- ---- what was stored
+
+-- the sketch with the seat at this place used was stored, or a shorter front of that was done
 abbrev pub IsMarked : SketchValues → ℕ → Option (List TalkEvent) → Option (List TalkEvent)
     → Result (Unit {0}) AskStatus → Type 0
-IsMarked s place old new (Ok _) = GoesOn old new (steps (spelled_file (mark place s)))
-IsMarked s place old new (Err (statuses.WriteFault ports.Sketch)) =
-    (n : ℕ) × (n < length (steps (spelled_file (mark place s))))
-    × GoesOn old new (take n (steps (spelled_file (mark place s))))
-IsMarked s place old new (Err statuses.OutOfMemory) =
-    (n : ℕ) × (n < length (steps (spelled_file (mark place s))))
-    × GoesOn old new (take n (steps (spelled_file (mark place s))))
+IsMarked s place old new (Ok _) = GoesOn old new (steps_of s place)
+IsMarked s place old new (Err (statuses.WriteFault ports.Sketch)) = IsStoredInPart s place old new
+IsMarked s place old new (Err statuses.OutOfMemory) = IsStoredInPart s place old new
 IsMarked s place old new (Err _) = ⊥
+
+-- for a question that takes this seat it was stored before anything was said, if it was; and for one
+-- that takes none nothing was
+abbrev pub Stores : SketchValues → Option ℕ → Option (List TalkEvent) → Option (List TalkEvent)
+    → Result (Unit {0}) AskStatus → Type 0
+Stores s None old new result = GoesOn old new []
+Stores s (Some place) old new (Ok _) = IsStored s place old new
+Stores s (Some place) old new (Err _) =
+    IsStoredInPart s place old new ⊎ IsStored s place old new
+
+-- ---- what a run of questions came to
+
+-- the status of an ask, by that of a run of questions that stopped so
+abbrev pub stopped : Status → AskStatus
+stopped (runs.Rejected query round reason) = statuses.Rejected query round reason
+stopped (runs.WriteFault port) = statuses.WriteFault ports.Report
+stopped runs.PeerFault = statuses.PeerFault
+stopped _ = statuses.OutOfMemory
+
+abbrev pub of_run : Result (Unit {0}) Status → Result (Unit {0}) AskStatus
+of_run (Ok done) = Ok done
+of_run (Err status) = Err (stopped status)
+
+-- ---- a question that is answered without being asked
+
+-- it asks for large entries, which are larger than all of a side: only such a question is
+abbrev pub IsIdle : Question → Type 0
+IsIdle question = (t : Tally) × IsTrue (is_idle t question)
+
+-- a front of a line was written that is shorter than it
+abbrev pub IsCutLine : Option (List TalkEvent) → Option (List TalkEvent) → List ℕ → Type 0
+IsCutLine blank full text =
+    (n : ℕ) × (n < length text) × GoesOn blank full (outs (take n text))
+
+-- its line was written, which says that there is no entry
+abbrev pub SaysNone : Question → Option (List TalkEvent) → Option (List TalkEvent)
+    → Result (Unit {0}) Status → Type 0
+SaysNone (questions.Query query) blank full (Ok _) =
+    GoesOn blank full (outs (line query (pairs [])))
+SaysNone (questions.Query query) blank full (Err (runs.WriteFault run_ports.Report)) =
+    IsCutLine blank full (line query (pairs []))
+SaysNone (questions.Query query) blank full (Err runs.OutOfMemory) =
+    IsCutLine blank full (line query (pairs []))
+SaysNone _ blank full _ = ⊥
+
+-- ---- what is left to be asked
 
 -- the questions that take seats, each with the challenges of its own
 abbrev pub asks_at : SketchValues → List Question → List (Option ℕ) → List (Question × List ℕ)
@@ -61,41 +106,23 @@ asks_at s (question ∷ asked) (None ∷ places) = asks_at s asked places
 asks_at s (question ∷ asked) (Some place ∷ places) =
     (question, block_at place s.seats) ∷ asks_at s asked places
 
--- the status of an ask, by that of a run of questions that stopped so
-abbrev pub stopped : Status → AskStatus
-stopped (runs.Rejected query round reason) = statuses.Rejected query round reason
-stopped (runs.WriteFault port) = statuses.WriteFault ports.Report
-stopped runs.PeerFault = statuses.PeerFault
-stopped _ = statuses.OutOfMemory
+-- what remains behind a question: where it takes a seat, all but the first
+abbrev pub behind_turn : Option ℕ → Remaining Question → Remaining Question
+behind_turn None left = left
+behind_turn (Some place) left = behind false left
 
--- nothing is asked, and this is written: the whole line of a question that has no entry, or a
--- shorter front of it
-abbrev pub SaysNone : Question → Option (List TalkEvent) → Option (List TalkEvent)
-    → Result (Unit {0}) Status → Type 0
-SaysNone (questions.Query query) blank full result = MatchResult result
-    (λ _. GoesOn blank full (outs (line query (pairs []))))
-    (λ status. (n : ℕ) × (n < length (line query (pairs [])))
-    × GoesOn blank full (outs (take n (line query (pairs []))))
-    × ((status ≡ runs.WriteFault run_ports.Report) ⊎ (status ≡ runs.OutOfMemory)))
-SaysNone _ blank full result = ⊥
+-- there is room for the file, and nothing failed so far
+pub record IsLive (a : Asking) : Type 0 where
+  pub room : size_of a.sketch ≤ vec_capacity a.file
+  pub live : a.asker.spent ≡ false
 
--- it asks for large entries: only such a question is answered without being asked
-abbrev pub IsIdle : Question → Type 0
-IsIdle question = (t : Tally) × IsTrue (is_idle t question)
+-- this question is the next, on the seat at this place; or it takes none
+abbrev pub IsNext : Asking → Question → Option ℕ → Type 0
+IsNext a question None = IsIdle question
+IsNext a question (Some place) = (place < length a.sketch.seats)
+    × IsFirst (remaining_of a.asker) (question, block_at place a.sketch.seats)
 
--- of what is left to be asked this is the first, at these challenges
-pub record IsNext (question : Question) (block : List ℕ) (s : QuestionSitting) : Type 0 where
-  pub more : List (Question × List ℕ)
-  pub first : map ask_at s.left ≡ (question, block) ∷ more
-
--- one question was asked, with an answer
-pub record GoesBehind (old new : QuestionSitting) : Type 0 where
-  pub version : new.version ≡ old.version
-  pub depth : new.depth ≡ old.depth
-  pub left : map ask_at new.left ≡ drop 1 (map ask_at old.left)
-  pub live : new.spent ≡ false
-
--- what asks them has these left, there is room for the file, and nothing failed so far
+-- these questions are to be asked, on the seats that they take, and nothing was done so far
 pub record StandsReady (asked : List Question) (places : List (Option ℕ)) (a : Asking)
     : Type 0 where
   pub is : IsSketch a.sketch
@@ -103,5 +130,4 @@ pub record StandsReady (asked : List Question) (places : List (Option ℕ)) (a :
   pub version : a.asker.version ≡ version_for a.sketch.depth asked
   pub depth : a.asker.depth ≡ a.sketch.depth
   pub left : map ask_at a.asker.left ≡ asks_at a.sketch asked places
-  pub live : a.asker.spent ≡ false
-  pub room : size_of a.sketch ≤ vec_capacity a.file
+  pub ready : IsLive a
