@@ -1,8 +1,12 @@
+mod AskEnds
+mod Chosen
 mod Contents
 mod Counted
 mod Fooled
 mod Marks
 mod Premises
+mod Refusing
 mod Saying
 mod Seats
+mod Served
 mod Tested

@@ -4,6 +4,7 @@ pub mod Choosing
 pub mod Counting
 pub mod Examples
 pub mod Marking
+pub mod Promises
 pub mod Runs
 pub mod Turns
 pub mod inside

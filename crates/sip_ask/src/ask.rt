@@ -1,24 +1,28 @@
 //! Asks questions of the sketch of a desk.
 
-ghost use Rattle.std.specs.Prelude.{◌≡◌, ◌≢◌, ◌≤◌, List, [], Ok, Err, All, IfErr, IfOk, IsErrOf};
-ghost use Rattle.std.specs.Prelude.{length, map};
+ghost use Rattle.std.specs.Prelude.{◌≡◌, ◌≢◌, ◌≤◌, ℕ, List, [], Ok, Err, All, IfErr, IfOk};
+ghost use Rattle.std.specs.Prelude.{IsErrOf, IsTrue, length, map};
 ghost use Rattle.sip_ports.specs.Ports.{GoesOn, Lasts, Rose};
 ghost use Rattle.sip_vector.specs.declared.update.Update.{Update as AnyUpdate};
 ghost use Rattle.sip_wire.specs.Table.{most_queries};
+ghost use Rattle.sip_wire.specs.declared.version.Version.{Version as AnyVersion};
+ghost use Rattle.sip_questions.specs.Promises.{CanPose};
 ghost use Rattle.sip_questions.specs.Questions.{version_for};
-ghost use Rattle.sip_questions.specs.Sittings.{StandsAt, StandsOn, ask_at};
+ghost use Rattle.sip_questions.specs.Sittings.{CanAsk, StandsAt, StandsOn, ask_at};
 ghost use Rattle.sip_sketch.specs.Sketches.{IsSketch};
 ghost use Rattle.sip_sketch.specs.Standing.{Stands};
 ghost use Rattle.sip_ask.specs.Asking.{Asks};
-ghost use Rattle.sip_ask.specs.Choosing.{choice};
+ghost use Rattle.sip_ask.specs.Causes.{HasRisen};
+ghost use Rattle.sip_ask.specs.Choosing.{choice, fits};
+ghost use Rattle.sip_ask.specs.Turns.{block_at};
+ghost use Rattle.sip_ask.specs.inside.Seating.{Serves};
 ghost use Rattle.sip_ask.specs.inside.Steps.{LoadsSketch, StandsReady, asks_at, status_of};
-ghost use Rattle.sip_ask.specs.declared.status.AskPort.TheVariants as ports;
 ghost use Rattle.sip_ask.specs.declared.status.AskStatus.TheVariants as statuses;
 
+use crate::AskStatus;
 use crate::asking::Asking;
 use crate::choosing::{Places, choose};
 use crate::opening::open;
-use crate::AskStatus;
 use arrayvec::ArrayVec;
 use sip_ports::{Desk, DeskStop, Sink};
 use sip_questions::{Question, QuestionAsker, QuestionSeat};
@@ -34,7 +38,6 @@ fn load<D: Desk>(alloc: Global, desk: &mut D) -> Result<Sketch, AskStatus>
     ensures cause { result ≡ Err statuses.ReadFault → Rose (D.faults desk.old) (D.faults desk.new) }
     ensures free { D.is_sure desk.old → ¬ IsErrOf result statuses.Busy }
     ensures talk { GoesOn (D.talk desk.old) (D.talk desk.new) [] }
-    ensures start { D.start desk.new ≡ D.start desk.old }
     ensures desk { Lasts D.faults D.wants D.is_sure desk.old desk.new }
 {
     let file = match desk.load(alloc) {
@@ -67,7 +70,21 @@ fn version_for(sketch: &Sketch, questions: &[Question]) -> Version
     Version::needed(sketch.depth(), &queries)
 }
 
-// A copy of what each seat keeps that a question takes, with the question.
+// A question, with a copy of what the seat at a place keeps that serves it.
+fn seat_of(sketch: &Sketch, question: Question, place: usize) -> QuestionSeat
+    requires is { IsSketch sketch.now }
+    requires serves { Serves sketch.now question place }
+    requires fits { IsTrue (fits sketch.now.depth question) }
+    ensures asks { ask_at result ≡ (question, block_at place sketch.now.seats) }
+    ensures can { (version : AnyVersion) → CanPose version sketch.now.depth question
+        → CanAsk version sketch.now.depth result }
+    ensures stands { (stream : List AnyUpdate) → Stands stream sketch.now
+        → StandsAt sketch.now.depth stream result }
+{
+    QuestionSeat::of(question, sketch.seats()[place].running())
+}
+
+// The same of each question that takes a seat.
 fn seated(
     alloc: Global,
     sketch: &Sketch,
@@ -78,14 +95,15 @@ fn seated(
     requires chosen { choice sketch.now questions.now ≡ Ok places.now.items }
     ensures asks { IfOk result (λ seats. map ask_at seats.items
         ≡ asks_at sketch.now questions.now places.now.items) }
+    ensures can { IfOk result (λ seats. All (CanAsk (version_for sketch.now.depth questions.now)
+        sketch.now.depth) seats.items) }
     ensures stands { IfOk result (λ seats. (stream : List AnyUpdate) → Stands stream sketch.now
         → All (StandsAt sketch.now.depth stream) seats.items) }
 {
     let mut seats = Vec::with_capacity(alloc, places.len())?;
     for (index, place) in places.iter().enumerate() {
         if let Some(place) = place {
-            let running = sketch.seats()[*place].running();
-            seats.push(QuestionSeat::of(questions[index], running))?;
+            seats.push(seat_of(sketch, questions[index], *place))?;
         }
     }
     Ok(seats)
@@ -100,10 +118,11 @@ fn ready(
     places: &Places,
 ) -> Result<Asking, AskStatus>
     requires is { IsSketch sketch }
+    requires most { length questions.now ≤ most_queries }
     requires chosen { choice sketch questions.now ≡ Ok places.now.items }
     requires version { version ≡ version_for sketch.depth questions.now }
-    ensures ready { IfOk result (λ a. (a.sketch ≡ sketch)
-        × StandsReady questions.now places.now.items a) }
+    ensures sketch { IfOk result (λ a. a.sketch ≡ sketch) }
+    ensures ready { IfOk result (StandsReady questions.now places.now.items) }
     ensures stands { IfOk result (λ a. (stream : List AnyUpdate) → Stands stream sketch
         → StandsOn stream a.asker) }
     ensures refused { IfErr result (λ status. status ≡ statuses.OutOfMemory) }
@@ -141,7 +160,9 @@ fn take_steps<D: Desk, K: Sink>(
     requires most { length questions.now ≤ most_queries }
     ensures asks { Asks questions.now (D.start desk.old) (D.talk desk.old) (D.talk desk.new)
         (K.talk report.old) (K.talk report.new) (status_of result) }
-    ensures start { D.start desk.new ≡ D.start desk.old }
+    ensures cause { IfErr result (HasRisen (D.faults desk.old) (D.faults desk.new)
+        (K.faults report.old) (K.faults report.new)) }
+    ensures free { D.is_sure desk.old → ¬ IsErrOf result statuses.Busy }
     ensures desk { Lasts D.faults D.wants D.is_sure desk.old desk.new }
     ensures report { Lasts K.faults K.wants K.is_sure report.old report.new }
 {
@@ -187,14 +208,9 @@ pub fn ask<D: Desk, K: Sink>(
     requires most { length questions.now ≤ most_queries }
     ensures asks { Asks questions.now (D.start desk.old) (D.talk desk.old) (D.talk desk.new)
         (K.talk report.old) (K.talk report.new) result }
-    ensures peer { result ≡ statuses.PeerFault → Rose (D.faults desk.old) (D.faults desk.new) }
-    ensures read { result ≡ statuses.ReadFault → Rose (D.faults desk.old) (D.faults desk.new) }
-    ensures stored { result ≡ statuses.WriteFault ports.Sketch
-        → Rose (D.faults desk.old) (D.faults desk.new) }
-    ensures wrote { result ≡ statuses.WriteFault ports.Report
-        → Rose (K.faults report.old) (K.faults report.new) }
+    ensures cause { HasRisen (D.faults desk.old) (D.faults desk.new) (K.faults report.old)
+        (K.faults report.new) result }
     ensures free { D.is_sure desk.old → result ≢ statuses.Busy }
-    ensures start { D.start desk.new ≡ D.start desk.old }
     ensures desk { Lasts D.faults D.wants D.is_sure desk.old desk.new }
     ensures report { Lasts K.faults K.wants K.is_sure report.old report.new }
 {

@@ -37,10 +37,9 @@ pub fn a_marked_sketch_is_the_same()
 /// each content that the file may have then has used the seats of all turns in which something was
 /// said.
 pub fn said_only_where_used()
-    ensures { (version : Version) (start : Option (List ℕ))
-        (talk opened behind : List TalkEvent) (s : SketchValues) (turns : List Turn)
-        (count place : ℕ) (content : Option (List ℕ)) → IsSketch s
-        → IsOfLink opened → AreTurns version s turns → IsOfLink behind
+    ensures { (start : Option (List ℕ)) (talk opened behind : List TalkEvent)
+        (s : SketchValues) (turns : List Turn) (count place : ℕ) (content : Option (List ℕ)) → IsSketch s
+        → IsOfLink opened → AreTurns s turns → IsOfLink behind
         → Contains (places_said (count - length opened) turns) place
         → Contains (may_hold start
         (talk ++ take count (opened ++ (flat_map turn_events turns ++ behind)))) content

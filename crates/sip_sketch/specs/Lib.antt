@@ -4,6 +4,7 @@ pub mod Fields
 pub mod Files
 pub mod Joining
 pub mod Loaded
+pub mod Marking
 pub mod MemoryFiles
 pub mod Merging
 pub mod Reading

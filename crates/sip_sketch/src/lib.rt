@@ -71,6 +71,7 @@ mod keeping;
 mod kind;
 pub mod laws;
 mod loading;
+mod marking;
 mod memory_files;
 mod merging;
 mod pace;

@@ -39,8 +39,8 @@ fn raised(total: i64) -> u64
     (total + MOST_TOTAL) as u64
 }
 
-// The running numbers of a kind, with their challenges, where a file has these two numbers.
-fn running_of(kind: SeatKind, block: Seat<M61, CAP>, first: u64, second: u64) -> Running
+/// The running numbers of a kind, with their challenges, where a file has these two numbers.
+pub(crate) fn running_of(kind: SeatKind, block: Seat<M61, CAP>, first: u64, second: u64) -> Running
     requires first { first < m61_modulus }
     requires second { IsSecond kind second }
     ensures keeps { IsTrue (keeps (query_of kind) (numbers_of result)) }

@@ -1,0 +1,33 @@
+//! What a question takes of a sketch: a seat, which is used from then on.
+
+ghost use Rattle.std.specs.Prelude.{◌≡◌, ◌<◌, IsTrue, length};
+ghost use Rattle.sip_verifier.specs.QuerySeats.{keeps};
+ghost use Rattle.sip_verifier.specs.Running.{block_of, numbers_of};
+ghost use Rattle.sip_sketch.specs.Marking.{mark};
+ghost use Rattle.sip_sketch.specs.Seats.{numbers_kept, query_of};
+
+use crate::seat::running_of;
+use crate::{Sketch, SketchSeat};
+use sip_verifier::Running;
+
+impl SketchSeat {
+    /// A copy of what it keeps, with its challenges: what the replies to a question are judged by.
+    pub fn running(&self) -> Running
+        ensures keeps { IsTrue (keeps (query_of self.now.kind) (numbers_of result)) }
+        ensures block { block_of result ≡ self.now.block }
+        ensures numbers { numbers_of result
+            ≡ numbers_kept self.now.kind self.now.first self.now.second }
+    {
+        running_of(self.kind, self.block().clone().unwrap(), self.first(), self.second())
+    }
+}
+
+impl Sketch {
+    /// Marks the seat at this place used, and changes nothing else.
+    pub fn mark(&mut self, place: usize)
+        requires { place < length self.old.seats }
+        ensures { self.new ≡ mark place self.old }
+    {
+        self.seats[place].is_used = true;
+    }
+}
