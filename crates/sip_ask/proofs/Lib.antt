@@ -3,10 +3,13 @@ mod Chosen
 mod Contents
 mod Counted
 mod Fooled
+mod HeldHeard
 mod Marks
 mod Premises
 mod Refusing
 mod Saying
 mod Seats
 mod Served
+mod Stops
 mod Tested
+mod TurnsTaken

@@ -53,7 +53,7 @@ IsMarked s place old new (Err _) = ⊥
 -- that takes none nothing was
 abbrev pub Stores : SketchValues → Option ℕ → Option (List TalkEvent) → Option (List TalkEvent)
     → Result (Unit {0}) AskStatus → Type 0
-Stores s None old new result = GoesOn old new []
+Stores s None old new result = new ≡ old
 Stores s (Some place) old new (Ok _) = IsStored s place old new
 Stores s (Some place) old new (Err _) =
     IsStoredInPart s place old new ⊎ IsStored s place old new
