@@ -1,7 +1,9 @@
 mod AskEnds
+mod AskRuns
 mod Chosen
 mod Contents
 mod Counted
+mod FileSizes
 mod Fooled
 mod Marks
 mod Premises
