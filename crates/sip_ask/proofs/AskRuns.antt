@@ -66,7 +66,7 @@ turns-came version s [] talk new free (said, farewell, goes) = record {
   farewell = farewell;
   goes = subst (GoesOn (Some talk) new) (sym (take_all (length said) said (omega arith))) goes;
 }
-turns-came version s (None ∷ places) talk new free stores = turns-came version s places talk new free.1 stores
+turns-came version s (None ∷ places) talk new free first = turns-came version s places talk new free.1 first
 turns-came version s (Some place ∷ places) talk new free (inl part) =
     let all = steps_of s place in
     let whole : all ++ [] ++ [] ++ [] ≡ all = append-nil (all ++ [] ++ []) ∙ append-nil (all ++ []) ∙ append-nil all in

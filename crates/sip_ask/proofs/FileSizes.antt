@@ -56,31 +56,71 @@ seats-size depth t (seat ∷ seats) before all =
     let step : length inner.0 ≡ length before + 2 + 8 * depth = omega (arith, inner.2, head_size, levels) in
     ap length own ∙ (let sum : length (spelled_behind tail next rest) ≡ length before + suc (length seats) * (18 + 8 * depth) + 32 = omega (arith, more, tail_size, step) in sum)
 
--- the numbers in front of the seats, spelled
-abbrev heading : SketchValues → List ℕ
-heading s = ((((((((((((((([] ++ spelled (byte 0x53 0x53) 0x53) ++ spelled (byte 0x49 0x49) 0x49) ++ spelled (byte 0x50 0x50) 0x50) ++ spelled (byte 0x4b 0x4b) 0x4b)
-    ++ spelled (byte 1 1) 1) ++ spelled (byte 1 most_depth) s.depth) ++ spelled (word 1 (2 ^ 32 - 1)) s.parts.count) ++ spelled (word 1 s.parts.count) s.parts.first)
-    ++ spelled (word s.parts.first s.parts.count) s.parts.last) ++ spelled (long 0 most_weight) s.tally.first) ++ spelled (long 0 most_weight) s.tally.second)
-    ++ spelled (long 0 (s.tally.first + s.tally.second)) s.tally.count) ++ spelled (negatives_field s.tally.first s.tally.second) (bits_of s.tally.negatives))
-    ++ spelled (long 0 (2 ^ 64 - 1)) s.tally.fingerprint) ++ spelled (byte 1 most_seats) (length s.seats))
+-- ---- the numbers in front of the seats, spelled one after another
 
-heading-size : (s : SketchValues) → length (heading s) ≡ 52
-heading-size s =
-    let l1 = grown [] (byte 0x53 0x53) 0x53 0 1 refl refl in
-    let l2 = grown _ (byte 0x49 0x49) 0x49 1 1 l1 refl in
-    let l3 = grown _ (byte 0x50 0x50) 0x50 2 1 l2 refl in
-    let l4 = grown _ (byte 0x4b 0x4b) 0x4b 3 1 l3 refl in
-    let l5 = grown _ (byte 1 1) 1 4 1 l4 refl in
-    let l6 = grown _ (byte 1 most_depth) s.depth 5 1 l5 refl in
-    let l7 = grown _ (word 1 (2 ^ 32 - 1)) s.parts.count 6 4 l6 refl in
-    let l8 = grown _ (word 1 s.parts.count) s.parts.first 10 4 l7 refl in
-    let l9 = grown _ (word s.parts.first s.parts.count) s.parts.last 14 4 l8 refl in
-    let l10 = grown _ (long 0 most_weight) s.tally.first 18 8 l9 refl in
-    let l11 = grown _ (long 0 most_weight) s.tally.second 26 8 l10 refl in
-    let l12 = grown _ (long 0 (s.tally.first + s.tally.second)) s.tally.count 34 8 l11 refl in
-    let l13 = grown _ (negatives_field s.tally.first s.tally.second) (bits_of s.tally.negatives) 42 1 l12 refl in
-    let l14 = grown _ (long 0 (2 ^ 64 - 1)) s.tally.fingerprint 43 8 l13 refl in
-    grown _ (byte 1 most_seats) (length s.seats) 51 1 l14 refl
+abbrev magic_1 : List ℕ
+magic_1 = [] ++ spelled (byte 0x53 0x53) 0x53
+
+abbrev magic_2 : List ℕ
+magic_2 = magic_1 ++ spelled (byte 0x49 0x49) 0x49
+
+abbrev magic_3 : List ℕ
+magic_3 = magic_2 ++ spelled (byte 0x50 0x50) 0x50
+
+abbrev magic_4 : List ℕ
+magic_4 = magic_3 ++ spelled (byte 0x4b 0x4b) 0x4b
+
+abbrev magic_5 : List ℕ
+magic_5 = magic_4 ++ spelled (byte 1 1) 1
+
+module _ (s : SketchValues) where
+  abbrev to_depth : List ℕ
+  to_depth = magic_5 ++ spelled (byte 1 most_depth) s.depth
+
+  abbrev to_count : List ℕ
+  to_count = to_depth ++ spelled (word 1 (2 ^ 32 - 1)) s.parts.count
+
+  abbrev to_first : List ℕ
+  to_first = to_count ++ spelled (word 1 s.parts.count) s.parts.first
+
+  abbrev to_last : List ℕ
+  to_last = to_first ++ spelled (word s.parts.first s.parts.count) s.parts.last
+
+  abbrev to_weight : List ℕ
+  to_weight = to_last ++ spelled (long 0 most_weight) s.tally.first
+
+  abbrev to_weights : List ℕ
+  to_weights = to_weight ++ spelled (long 0 most_weight) s.tally.second
+
+  abbrev to_records : List ℕ
+  to_records = to_weights ++ spelled (long 0 (s.tally.first + s.tally.second)) s.tally.count
+
+  abbrev to_negatives : List ℕ
+  to_negatives = to_records ++ spelled (negatives_field s.tally.first s.tally.second) (bits_of s.tally.negatives)
+
+  abbrev to_print : List ℕ
+  to_print = to_negatives ++ spelled (long 0 (2 ^ 64 - 1)) s.tally.fingerprint
+
+  abbrev heading : List ℕ
+  heading = to_print ++ spelled (byte 1 most_seats) (length s.seats)
+
+  heading-size : length heading ≡ 52
+  heading-size =
+      let m1 = grown [] (byte 0x53 0x53) 0x53 0 1 refl refl in
+      let m2 = grown magic_1 (byte 0x49 0x49) 0x49 1 1 m1 refl in
+      let m3 = grown magic_2 (byte 0x50 0x50) 0x50 2 1 m2 refl in
+      let m4 = grown magic_3 (byte 0x4b 0x4b) 0x4b 3 1 m3 refl in
+      let m5 = grown magic_4 (byte 1 1) 1 4 1 m4 refl in
+      let l1 = grown magic_5 (byte 1 most_depth) s.depth 5 1 m5 refl in
+      let l2 = grown to_depth (word 1 (2 ^ 32 - 1)) s.parts.count 6 4 l1 refl in
+      let l3 = grown to_count (word 1 s.parts.count) s.parts.first 10 4 l2 refl in
+      let l4 = grown to_first (word s.parts.first s.parts.count) s.parts.last 14 4 l3 refl in
+      let l5 = grown to_last (long 0 most_weight) s.tally.first 18 8 l4 refl in
+      let l6 = grown to_weight (long 0 most_weight) s.tally.second 26 8 l5 refl in
+      let l7 = grown to_weights (long 0 (s.tally.first + s.tally.second)) s.tally.count 34 8 l6 refl in
+      let l8 = grown to_records (negatives_field s.tally.first s.tally.second) (bits_of s.tally.negatives) 42 1 l7 refl in
+      let l9 = grown to_negatives (long 0 (2 ^ 64 - 1)) s.tally.fingerprint 43 8 l8 refl in
+      grown to_print (byte 1 most_seats) (length s.seats) 51 1 l9 refl
 
 pub file-size : (s : SketchValues) → IsSketch s → length (spelled_file s) ≡ size_of s
 file-size s is =
