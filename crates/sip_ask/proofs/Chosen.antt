@@ -13,15 +13,15 @@ use Rattle.sip_sketch.specs.declared.kind.SeatKind.TheVariants as kinds
 use Rattle.sip_sketch.proofs.Apart.{kinds_same}
 use Rattle.sip_questions.specs.declared.question.Question.{Question}
 use Rattle.sip_ask.specs.Asking.{marked_by}
-use Rattle.sip_ask.specs.Choosing.{all_pass, choice, fits, fits_at, free_from, is_free, is_idle, is_place, is_signed, kind_for, seat_for, seats_for, small_at}
+use Rattle.sip_ask.specs.Choosing.{all_pass, choice, fits, fits_at, free_from, is_free, is_high_of, is_idle, is_place, is_signed, is_wide_of, kind_for, seat_for, seats_for, small_at}
 use Rattle.sip_ask.specs.Turns.{block_at}
 use Rattle.sip_ask.specs.Marking.{is_used_at, mark, used_at}
-use Rattle.sip_ask.specs.inside.Seating.{IsSeat, Serves, Takes}
+use Rattle.sip_ask.specs.inside.Seating.{IsSeat, IsTested, Serves, Takes}
 use Rattle.sip_ask.specs.inside.Steps.{asks_at}
 use Rattle.sip_ask.specs.declared.status.AskStatus.{AskStatus}
 use Rattle.sip_ask.specs.declared.status.AskStatus.TheVariants as statuses
 use Rattle.sip_ask.proofs.Marks.{length-used}
-use Rattle.sip_ask.proofs.Tested.{all-fitting, bound}
+use Rattle.sip_ask.proofs.Tested.{all-fitting, bound, passed, seats-unsigned, small-low, small-narrow}
 
 -- ---- a free seat
 
@@ -97,7 +97,7 @@ seats-take s taken (q ∷ asked) places e =
 pub record IsChosen (s : SketchValues) (asked : List Question) (places : List (Option ℕ)) : Type 0 where
   pub fit : All (λ q. IsTrue (fits s.depth q)) asked
   pub take : AllZip (Takes s) asked places
-  pub small : all_pass (small_at s.tally) 1 asked ≡ Ok tt
+  pub tested : All (IsTested s.tally) asked
 
 -- the seats were chosen
 chosen-seats : (s : SketchValues) (asked : List Question) (places : List (Option ℕ)) → choice s asked ≡ Ok places
@@ -126,7 +126,11 @@ chosen-is s asked places e =
     record {
       fit = all-fitting s.depth asked fitted.1;
       take = subst (AllZip (Takes s) asked) (sym seats.1 ∙ same) seats.2;
-      small = small.1;
+      tested =
+          let unsigned = seats-unsigned s [] asked seated.0 seated.1 in
+          let narrow = passed (small_at s.tally) (λ q. is_wide_of s.tally q ≡ false) (small-narrow s.tally) 1 asked small.0 small.1 in
+          let low = passed (small_at s.tally) (λ q. is_high_of s.tally q ≡ false) (small-low s.tally) 1 asked small.0 small.1 in
+          λ k d lt. record { unsigned = unsigned k d lt; narrow = narrow k d lt; low = low k d lt };
     }
 
 -- ---- the questions that take seats
