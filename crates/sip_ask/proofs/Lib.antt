@@ -1,9 +1,14 @@
 mod AskEnds
+mod AskKept
+mod AskPromises
+mod AskRuns
 mod Chosen
 mod Contents
 mod Counted
+mod FileSizes
 mod Fooled
 mod HeldHeard
+mod LinkTalks
 mod Marks
 mod Premises
 mod Refusing
@@ -11,5 +16,7 @@ mod Saying
 mod Seats
 mod Served
 mod Stops
+mod StreamBytes
 mod Tested
 mod TurnsTaken
+mod Unsigned

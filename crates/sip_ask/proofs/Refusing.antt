@@ -1,5 +1,5 @@
 -- Why questions may not be asked of a sketch: what a choice of seats answers.
-use Rattle.std.proofs.Common.{◌≡◌, ◌⊎◌, ℕ, zero, suc, ◌+◌, Bool, true, false, not, cond, List, [], ◌∷◌, ◌++◌, length, Option, Some, None, inl, inr, refl, sym, subst}
+use Rattle.std.proofs.Common.{◌≡◌, ◌⊎◌, ℕ, zero, suc, ◌+◌, Bool, true, false, not, cond, List, [], ◌∷◌, ◌++◌, length, Option, Some, None, inl, inr, refl, ap, subst}
 use Rattle.std.specs.Prelude.{⊤, Result, Ok, Err}
 use Rattle.sip_vector.specs.Steps.{◌>>=◌, needs}
 use Rattle.sip_vector.specs.declared.tally.Tally.{Tally}
@@ -25,7 +25,7 @@ IsRefusal _ = ⊥
 
 failed : {A B E : Type 0} (r : Result A E) (f : A → Result B E) (why : E) → (r >>= f) ≡ Err why → (r ≡ Err why) ⊎ ((x : A) × (r ≡ Ok x) × (f x ≡ Err why))
 failed (Ok x) f why e = inr (x, refl, e)
-failed (Err own) f why e = inl e
+failed (Err own) f why e = inl (let same : own ≡ why = cc in ap Err same)
 
 unmet : (test : Bool) (why got : AskStatus) → needs test why ≡ Err got → why ≡ got
 unmet true why got e = absurd cc
@@ -50,10 +50,10 @@ large t number q got e = elim (failed (needs (not (is_wide_of t q)) (statuses.To
 
 unseated : (signed idle : Bool) (why none : AskStatus) (found : Option ℕ) (got : AskStatus) → IsRefusal why → IsRefusal none
     → cond signed (Err why) (cond idle (Ok None) (on found (Err none) (λ (place : ℕ). Ok (Some place)))) ≡ Err got → IsRefusal got
-unseated true idle why none found got is no e = let same : why ≡ got = cc in subst IsRefusal same is
-unseated false true why none found got is no e = absurd cc
-unseated false false why none None got is no e = let same : none ≡ got = cc in subst IsRefusal same no
-unseated false false why none (Some place) got is no e = absurd cc
+unseated true idle why none found got is other e = let same : why ≡ got = cc in subst IsRefusal same is
+unseated false true why none found got is other e = absurd cc
+unseated false false why none None got is other e = let same : none ≡ got = cc in subst IsRefusal same other
+unseated false false why none (Some place) got is other e = absurd cc
 
 no-seats : (s : SketchValues) (taken : List (Option ℕ)) (asked : List Question) (got : AskStatus) → seats_for s taken asked ≡ Err got → IsRefusal got
 no-seats s taken [] got e = absurd cc
@@ -78,7 +78,7 @@ choice-refuses s asked got e =
           | inl none ↦ no-seats s [] asked got none
           | inr seats ↦ elim (failed (all_pass (small_at s.tally) 1 asked) (λ _. Ok seats.0) got seats.2) [
             | inl wide ↦ all-failed (small_at s.tally) (large s.tally) 1 asked got wide
-            | inr small ↦ absurd (let no = small.2 in cc)
+            | inr small ↦ absurd (let not_so = small.2 in cc)
           ]
         ]
       ]

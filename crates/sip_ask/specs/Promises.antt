@@ -81,16 +81,16 @@ module _ (asked : List Question) (s : SketchValues) (places : List (Option ℕ))
     pub talk : x.talk ≡ stream_sent (version_for s.depth asked) s.depth stream ++ of_link behind
     pub written : x.report ≡ report
 
--- Of every stream that the loaded sketch stands for: the call keeps the five promises of questions,
--- each at the block of its seat.
+-- Of every stream that the loaded sketch stands for, where the talk and the report are told: the
+-- call keeps the five promises of questions, each at the block of its seat.
 abbrev pub AskClauses : List Question → SketchValues → List (Option ℕ) → Option (List TalkEvent)
     → Option (List TalkEvent) → Option (List TalkEvent) → Option (List TalkEvent) → Counts → Counts
     → AskStatus → Type 0
 AskClauses asked s places old new blank full before now status =
-    (stream : List Update) → Stands stream s → choice s asked ≡ Ok places
-    → (behind : List TalkEvent) (report : List ℕ)
-    → GoesOn old new (recall_sent (version_for s.depth asked) s.depth s.tally.count
-    ++ held_heard (version_for s.depth asked) (held_by s.tally) ++ behind)
+    (stream : List Update) → Stands stream s
+    → (talk behind wrote : List TalkEvent) (report : List ℕ) → old ≡ Some talk → blank ≡ Some wrote
+    → GoesOn old new ((recall_sent (version_for s.depth asked) s.depth s.tally.count
+    ++ held_heard (version_for s.depth asked) (held_by s.tally)) ++ behind)
     → GoesOn blank full (outs report)
     → (run_end : Status) → run_status status ≡ Some run_end
     → (form : Form) (x : Exchange) → IsAsIf asked s places stream form behind report x
