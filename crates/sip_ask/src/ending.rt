@@ -40,11 +40,13 @@ pub(crate) fn on_run(came: Result<(), Status>) -> Result<(), AskStatus>
 {
     match came {
         Ok(()) => Ok(()),
-        Err(Status::Rejected {
-            query,
-            round,
-            reason,
-        }) => Err(AskStatus::Rejected {
+        Err(
+            Status::Rejected {
+                query,
+                round,
+                reason,
+            },
+        ) => Err(AskStatus::Rejected {
             query,
             round,
             reason,

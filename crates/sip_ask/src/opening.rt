@@ -67,12 +67,7 @@ fn send_count<K: Sink>(version: Version, count: u64, sink: &mut K) -> Result<(),
 }
 
 // Sends both.
-fn recall<K: Sink>(
-    version: Version,
-    depth: Depth,
-    count: u64,
-    sink: &mut K,
-) -> Result<(), PortStop>
+fn recall<K: Sink>(version: Version, depth: Depth, count: u64, sink: &mut K) -> Result<(), PortStop>
     requires { depth ≤ deepest version }
     ensures talk { SendsWhole (K.talk sink.old) (K.talk sink.new) result
         (recall_bytes version depth count) }
@@ -83,11 +78,7 @@ fn recall<K: Sink>(
 }
 
 // Hears what the other end holds.
-fn hear_held<L: Link>(
-    version: Version,
-    link: &mut L,
-    frame: &mut Frame,
-) -> Result<Held, AskStatus>
+fn hear_held<L: Link>(version: Version, link: &mut L, frame: &mut Frame) -> Result<Held, AskStatus>
     ensures hears { HearsHeld version (L.talk link.old) (L.talk link.new) result }
     ensures cause { result ≡ Err AskStatus.PeerFault → Rose (L.faults link.old) (L.faults link.new) }
     ensures memory { result ≡ Err AskStatus.OutOfMemory
