@@ -134,7 +134,7 @@ module _ (asked : List Question) (start : Option (List ℕ)) (old new blank full
           (subst (GoesOn near new) (sym (append_assoc recall (ins bytes) (Ended ∷ []))) goes) unwritten
       opened-asks statuses.BadFrame h unwritten =
           let bytes = h.hears.bytes in
-          opens (IsBadHeld asked start old new blank full) (recall ++ ins bytes) (bytes, refl, h.hears.other)
+          opens (IsBadHeld asked start old new blank full) (recall ++ ins bytes) (bytes, refl, h.hears.fault, h.hears.of_bytes, h.hears.other)
           (GoesOn-trans near h.mid new recall (ins bytes) h.sent h.hears.talk) unwritten
       opened-asks (statuses.OutOfStep held kept) (h, same, other) unwritten =
           opens (IsOutOfStep asked start old new blank full held kept) (recall ++ held_heard version held) (refl, same, other)
