@@ -1,3 +1,4 @@
+mod Among
 mod AskEnds
 mod AskKept
 mod AskPromises
@@ -9,6 +10,7 @@ mod FileSizes
 mod Fooled
 mod LinkTalks
 mod Marks
+mod Narrow
 mod Premises
 mod Refusing
 mod Saying
