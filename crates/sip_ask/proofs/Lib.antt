@@ -14,6 +14,7 @@ mod Narrow
 mod Premises
 mod Refusing
 mod Saying
+mod SeatSteps
 mod Seats
 mod Served
 mod StreamBytes
