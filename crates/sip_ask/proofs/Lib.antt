@@ -1,3 +1,4 @@
+mod Among
 mod AskEnds
 mod AskKept
 mod AskPromises
@@ -10,9 +11,11 @@ mod Fooled
 mod HeldHeard
 mod LinkTalks
 mod Marks
+mod Narrow
 mod Premises
 mod Refusing
 mod Saying
+mod SeatSteps
 mod Seats
 mod Served
 mod Stops

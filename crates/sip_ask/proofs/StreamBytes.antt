@@ -1,6 +1,6 @@
 -- Each legal stream has bytes that are read back as it.
 use Rattle.std.proofs.Common.{◌≡◌, ◌≢◌, ℕ, zero, suc, ◌+◌, ◌^◌, ◌<◌, ◌≤◌, Bool, true, false, ltb, leb, eqb, ℤ, pos, negsuc, nat_abs, List, [], ◌∷◌, ◌++◌, length, All, None, refl, sym, ap, subst, ◌∙◌, append_assoc, append-nil, arith}
-use Rattle.std.proofs.lemmas.Bool.{le-ltb, lt-leb}
+use Rattle.std.proofs.lemmas.Bool.{le-ltb, lt-leb, ne_eqb}
 use Rattle.std.proofs.lemmas.List.{drop_at}
 use Rattle.std.proofs.lemmas.List.Elements.{All-drop, All-head}
 use Rattle.sip_vector.specs.Answers.{is_zero}
@@ -36,8 +36,8 @@ legal-weight depth stream Second legal = legal.second
 
 some-delta : (d : ℤ) → d ≢ pos 0 → is_zero d ≡ false
 some-delta (pos zero) other = absurd (other refl)
-some-delta (pos (suc n)) other = refl
-some-delta (negsuc n) other = refl
+some-delta (pos (suc n)) other = ne_eqb (suc n) 0 (λ e. omega (arith, e))
+some-delta (negsuc n) other = ne_eqb (suc n) 0 (λ e. omega (arith, e))
 
 -- what is so of all updates is so of one of them
 at-one : (P : Update → Type 0) (before rest : List Update) (u : Update) → All P (before ++ u ∷ rest) → P u

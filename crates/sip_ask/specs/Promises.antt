@@ -1,20 +1,16 @@
 -- What an ask promises: the promises of a run of questions, on the exchange that it would have been
 -- if the stream had passed through its talk in place of what asks for it, and if the file had been
 -- left out of it.
-use Rattle.std.specs.Prelude.{◌≡◌, ◌≢◌, ◌⊎◌, ℕ, ◌≤◌, List, [], ◌∷◌, ◌++◌, length, flat_map, Some, None}
-use Rattle.std.specs.Prelude.{Ok, All, replicate}
-use Rattle.std.specs.List.{zip}
+use Rattle.std.specs.Prelude.{◌≡◌, ℕ, ◌≤◌, List, [], ◌∷◌, ◌++◌, length, flat_map, replicate}
+use Rattle.std.specs.Prelude.{Some, None, Ok}
 use Rattle.std.specs.declared.option.Option.{Option}
-use Rattle.sip_ports.specs.Ports.{GoesOn, heard, outs}
+use Rattle.sip_ports.specs.Ports.{GoesOn, outs}
 use Rattle.sip_ports.specs.declared.port.TalkEvent.{TalkEvent}
 use Rattle.sip_ports.specs.declared.port.TalkEvent.TheVariants.{Out, In, Ended, Fresh, Stored}
 use Rattle.sip_ports.specs.declared.port.TalkEvent.TheVariants.{Renames, Kept}
 use Rattle.sip_stream.specs.Records.{records}
 use Rattle.sip_stream.specs.declared.form.Form.{Form}
 use Rattle.sip_vector.specs.declared.update.Update.{Update}
-use Rattle.sip_wire.specs.Spelling.{spelling}
-use Rattle.sip_wire.specs.declared.message.Message.TheVariants as messages
-use Rattle.sip_replies.specs.Talks.{IsPrefix}
 use Rattle.sip_verifier.specs.Exchanges.{Exchange}
 use Rattle.sip_verifier.specs.Snapshots.{Counts}
 use Rattle.sip_verifier.specs.Talks.{stream_sent}
@@ -22,9 +18,8 @@ use Rattle.sip_verifier.specs.declared.status.Port.TheVariants as run_ports
 use Rattle.sip_verifier.specs.declared.status.Status.{Status}
 use Rattle.sip_verifier.specs.declared.status.Status.TheVariants as run_statuses
 use Rattle.sip_verifier.specs.runs.Runs.{Run}
-use Rattle.sip_questions.specs.Honest as honest
 use Rattle.sip_questions.specs.Promises.{QuestionClauses}
-use Rattle.sip_questions.specs.Questions.{asking, version_for}
+use Rattle.sip_questions.specs.Questions.{version_for}
 use Rattle.sip_questions.specs.declared.question.Question.{Question}
 use Rattle.sip_sketch.specs.Sketches.{SketchValues}
 use Rattle.sip_sketch.specs.Standing.{Stands}
@@ -95,37 +90,3 @@ AskClauses asked s places old new blank full before now status =
     → (run_end : Status) → run_status status ≡ Some run_end
     → (form : Form) (x : Exchange) → IsAsIf asked s places stream form behind report x
     → QuestionClauses (run_of asked s places stream form) x before now run_end
-
--- ---- completeness
-
-module _ (asked : List Question) (s : SketchValues) (places : List (Option ℕ))
-    (stream : List Update) where
-  -- the bytes of honest replies to a question at the place of its seat, if it has one
-  abbrev pub honest_at : Question × Option ℕ → List ℕ
-  honest_at (question, None) = []
-  honest_at (question, Some place) =
-      honest.honest_bytes (version_for s.depth asked) s.depth stream (block_at place s.seats)
-      question
-
-  -- The sketch stands for the stream, and its helper can answer; what was heard is a front of what
-  -- such a helper says, which the link's end did not cut.
-  pub record IsHonestAsk (events : List TalkEvent) : Type 0 where
-    pub stands : Stands stream s
-    pub chosen : choice s asked ≡ Ok places
-    pub can : All (honest.CanAnswer (version_for s.depth asked) s.depth stream) asked
-    pub heard : IsPrefix (heard events)
-        (spelling (version_for s.depth asked) (messages.Held (held_by s.tally))
-        ++ flat_map honest_at (zip asked places))
-    pub lasts : All (λ e. e ≢ Ended) events
-
-  abbrev pub honest_report : List ℕ
-  honest_report = flat_map (λ question.
-      (asking (version_for s.depth asked) s.depth stream).line question
-      (honest.answer s.depth stream question)) asked
-
-  -- then each question is accepted with the stream's own answer, or memory ran out, where no count
-  -- of faults rose
-  abbrev pub AskCompletes : List TalkEvent → List ℕ → Type 0 → AskStatus → Type 0
-  AskCompletes events report none_rose status = IsHonestAsk events → none_rose
-      → ((status ≡ statuses.Accepted) × (report ≡ honest_report))
-      ⊎ (status ≡ statuses.OutOfMemory)

@@ -1,21 +1,21 @@
 //! Asks questions of the sketch of a desk.
 
-ghost use Rattle.std.specs.Prelude.{◌≡◌, ◌≢◌, ◌≤◌, ℕ, List, [], Ok, Err, All, IfErr, IfOk};
+ghost use Rattle.std.specs.Prelude.{◌≡◌, ◌≢◌, ◌≤◌, ℕ, List, [], Ok, Err, None, All, IfErr, IfOk};
 ghost use Rattle.std.specs.Prelude.{IsErrOf, IsTrue, length, map};
 ghost use Rattle.sip_ports.specs.Ports.{GoesOn, Lasts, Rose};
 ghost use Rattle.sip_vector.specs.declared.update.Update.{Update as AnyUpdate};
 ghost use Rattle.sip_wire.specs.Table.{most_queries};
 ghost use Rattle.sip_wire.specs.declared.version.Version.{Version as AnyVersion};
 ghost use Rattle.sip_questions.specs.Promises.{CanPose};
-ghost use Rattle.sip_questions.specs.Questions.{version_for};
-ghost use Rattle.sip_questions.specs.Sittings.{CanAsk, StandsAt, StandsOn, ask_at};
+ghost use Rattle.sip_questions.specs.Questions.{first_by, version_for};
+ghost use Rattle.sip_questions.specs.Sittings.{CanAsk, StandsAt, StandsOn, ask_at, refusal_at};
 ghost use Rattle.sip_sketch.specs.Sketches.{IsSketch};
 ghost use Rattle.sip_sketch.specs.Standing.{Stands};
 ghost use Rattle.sip_ask.specs.Asking.{Asks};
 ghost use Rattle.sip_ask.specs.Causes.{HasRisen};
-ghost use Rattle.sip_ask.specs.Choosing.{choice, fits};
+ghost use Rattle.sip_ask.specs.Choosing.{choice, fits, weight_told};
 ghost use Rattle.sip_ask.specs.Turns.{block_at};
-ghost use Rattle.sip_ask.specs.inside.Seating.{Serves};
+ghost use Rattle.sip_ask.specs.inside.Seating.{IsTested, Serves};
 ghost use Rattle.sip_ask.specs.inside.Steps.{LoadsSketch, StandsReady, asks_at, status_of};
 ghost use Rattle.sip_ask.specs.declared.status.AskStatus.TheVariants as statuses;
 
@@ -28,7 +28,7 @@ use sip_ports::{Desk, DeskStop, Sink};
 use sip_questions::{Question, QuestionAsker, QuestionSeat};
 use sip_sketch::{Sketch, SketchFault};
 use sip_vector::Query;
-use sip_verifier::Weights;
+use sip_verifier::{Status, Weights};
 use sip_wire::{Frame, MOST_QUERIES, Version};
 use std::alloc::{AllocError, Global};
 
@@ -75,11 +75,14 @@ fn seat_of(sketch: &Sketch, question: Question, place: usize) -> QuestionSeat
     requires is { IsSketch sketch.now }
     requires serves { Serves sketch.now question place }
     requires fits { IsTrue (fits sketch.now.depth question) }
+    requires tested { IsTested sketch.now.tally question }
     ensures asks { ask_at result ≡ (question, block_at place sketch.now.seats) }
     ensures can { (version : AnyVersion) → CanPose version sketch.now.depth question
         → CanAsk version sketch.now.depth result }
     ensures stands { (stream : List AnyUpdate) → Stands stream sketch.now
         → StandsAt sketch.now.depth stream result }
+    ensures free { (number : ℕ)
+        → refusal_at (weight_told sketch.now.tally) number result ≡ None }
 {
     QuestionSeat::of(question, sketch.seats()[place].running())
 }
@@ -99,6 +102,8 @@ fn seated(
         sketch.now.depth) seats.items) }
     ensures stands { IfOk result (λ seats. (stream : List AnyUpdate) → Stands stream sketch.now
         → All (StandsAt sketch.now.depth stream) seats.items) }
+    ensures free { IfOk result (λ seats.
+        first_by (refusal_at (weight_told sketch.now.tally)) 1 seats.items ≡ None) }
 {
     let mut seats = Vec::with_capacity(alloc, places.len())?;
     for (index, place) in places.iter().enumerate() {
@@ -135,9 +140,11 @@ fn ready(
         first: tally.first,
         second: tally.second,
     };
-    // None of the seats refuses its question: that was tested.
-    let Ok(asker) = QuestionAsker::new(alloc, version, sketch.depth(), seats, &weights) else {
-        return Err(AskStatus::OutOfMemory);
+    let asker = match QuestionAsker::new(alloc, version, sketch.depth(), seats, &weights) {
+        Ok(asker) => asker,
+        Err(Status::OutOfMemory) => return Err(AskStatus::OutOfMemory),
+        // What a seat refuses was tested.
+        Err(_) => unreachable!(),
     };
     let Ok(file) = Vec::with_capacity(alloc, sketch.size()) else {
         return Err(AskStatus::OutOfMemory);

@@ -41,3 +41,4 @@ pub mod WatchedCrashes
 pub mod Merged
 pub mod MergedCrashes
 pub mod Shapes
+pub mod Marked

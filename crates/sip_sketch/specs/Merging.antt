@@ -1,5 +1,6 @@
 -- What a call did that adds up the parts of a stream in the sketch of a desk.
-use Rattle.std.specs.Prelude.{◌≡◌, ◌⊎◌, ℕ, zero, suc, ◌+◌, ◌<◌, ◌≤◌, nat_lt, true, false, not, ◌||◌, ⊤}
+use Rattle.std.specs.Prelude.{◌≡◌, ◌⊎◌, ℕ, zero, suc, ◌+◌, ◌<◌, ◌≤◌, nat_lt, true, false, not}
+use Rattle.std.specs.Prelude.{◌||◌, ⊤}
 use Rattle.std.specs.Prelude.{List, [], ◌∷◌, length, take, flat_map, All, None, Some}
 use Rattle.std.specs.Prelude.{if◌then◌else◌}
 use Rattle.std.specs.List.{AllZip}

@@ -18,7 +18,8 @@ module _ (files : Option (ℕ → Option (List ℕ))) where
   -- what was loaded is no file of a sketch from this byte on; a missing file is as an empty one
   abbrev pub IsBadAt : ℕ → Type 0
   IsBadAt offset =
-      (file : Option (List ℕ)) × Finds files 0 file × (read sketch_file (unwrap_or file []) ≡ Err offset)
+      (file : Option (List ℕ)) × Finds files 0 file
+      × (read sketch_file (unwrap_or file []) ≡ Err offset)
 
   -- the sketch whose file was loaded
   pub record IsLoaded (sketch : SketchValues) : Type 0 where

@@ -1,8 +1,7 @@
 //! Adds the next part of a stream to a sketch.
 
-ghost use Rattle.std.specs.Prelude.{◌≡◌, ◌≤◌, ◌==◌, ◌&&◌, ◌++◌, List, None, Some, IfOk, IfErr, OnOk};
-ghost use Rattle.std.specs.Prelude.{OnErr};
-ghost use Rattle.std.specs.Prelude.{bytes_eq};
+ghost use Rattle.std.specs.Prelude.{◌≡◌, ◌≤◌, ◌==◌, ◌&&◌, ◌++◌, List, None, Some, IfOk, IfErr};
+ghost use Rattle.std.specs.Prelude.{OnErr, OnOk, bytes_eq};
 ghost use Rattle.std.specs.Cmp.Lexicographic.{pointwise};
 ghost use Rattle.std.specs.List.{AllZip};
 ghost use Rattle.sip_vector.specs.Streams.{most_weight};

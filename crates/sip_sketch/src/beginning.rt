@@ -1,24 +1,23 @@
 //! Begins a sketch.
 
-ghost use Rattle.std.specs.Prelude.{◌≡◌, ◌*◌, ◌<◌, ◌≤◌, ◌↔◌, length, map, IfOk, IfErr, IsErrOf, []};
-ghost use Rattle.std.specs.Prelude.{None};
-ghost use Rattle.sip_field.specs.Elements.{m61_number};
+ghost use Rattle.std.specs.Prelude.{◌≡◌, ◌*◌, ◌<◌, ◌≤◌, ◌↔◌, length, IfOk, IfErr, IsErrOf, []};
+ghost use Rattle.std.specs.Prelude.{None, Some, IsErr};
+ghost use Rattle.sip_field.specs.Draw.{draw_list, words_after};
 ghost use Rattle.sip_vector.specs.Tallies.{tally};
 ghost use Rattle.sip_verifier.specs.Draws.{challenges_of};
 ghost use Rattle.sip_sketch.specs.Sketches.{most_seats};
 ghost use Rattle.sip_sketch.specs.Standing.{IsBegun};
 ghost use Rattle.sip_sketch.specs.declared.beginning.BeginFault.TheVariants.{OutOfMemory};
-ghost use Rattle.sip_sketch.specs.inside.Beginning.{AreBegun};
+ghost use Rattle.sip_sketch.specs.inside.Beginning.{AreBegun, BeginsAt};
 ghost use Rattle.sip_sketch.specs.declared.beginning.BeginFault.TheVariants as faults;
 
 use crate::{Parts, SeatKind, Sketch, SketchSeat};
-use sip_field::{M61, Seat, SeedSpent, draw_challenges};
+use rand_chacha::ChaCha20Rng;
+use rand_core::{Rng, SeedableRng};
+use sip_field::{Seat, SeedSpent, draw_next, draw_one};
 use sip_vector::{CAP, Depth, Tally};
 use std::alloc::{AllocError, AllocFailed, Global};
 use thiserror::Error;
-
-/// How many challenges a sketch has at most: 64 seats at depth 48.
-const MOST_CHALLENGES: usize = 64 * CAP;
 
 /// Why a sketch was not begun.
 #[derive(Clone, Copy, Debug, PartialEq, Eq, Error)]
@@ -55,27 +54,55 @@ impl<T: Drop> From<AllocFailed<T>> for BeginFault {
     }
 }
 
-// A seat of each kind in order, each with the next challenges, so many of them.
-fn seats_at(
+// A seat of this kind, with the next challenges of a generator.
+fn next_seat<R: Rng>(rng: &mut R, levels: usize, kind: SeatKind) -> Result<SketchSeat, SeedSpent>
+    requires some { 1 ≤ levels }
+    requires most { levels ≤ CAP }
+    ensures kind { IfOk result (λ seat. seat.kind ≡ kind) }
+    ensures begins { IfOk result (BeginsAt levels) }
+    ensures drawn { IfOk result (λ seat. draw_list levels (R.stream rng.old) ≡ Some seat.block) }
+    ensures left { IfOk result (λ _. R.stream rng.new ≡ words_after levels (R.stream rng.old)) }
+    ensures spent { IfErr result (λ _. draw_list levels (R.stream rng.old) ≡ None) }
+{
+    let challenges = draw_next::<R, CAP>(rng, levels)?;
+    let Some(block) = Seat::of(&challenges) else {
+        unreachable!()
+    };
+    Ok(SketchSeat::begin(kind, block))
+}
+
+// Draws so many challenges of a generator, and keeps none.
+fn pass<R: Rng>(rng: &mut R, count: usize) -> Result<(), SeedSpent>
+    ensures { IsErr result ↔ (draw_list count (R.stream rng.old) ≡ None) }
+{
+    for _ in 0..count {
+        draw_one(rng)?;
+    }
+    Ok(())
+}
+
+// A seat of each kind in order, each with the next challenges of a generator, so many of them.
+fn seats_at<R: Rng>(
     alloc: Global,
+    rng: &mut R,
     levels: usize,
     kinds: &[SeatKind],
-    challenges: &[M61],
 ) -> Result<Vec<SketchSeat>, BeginFault>
     requires some { 1 ≤ levels }
     requires most { levels ≤ CAP }
-    requires count { length challenges.now ≡ levels * length kinds.now }
-    ensures begun { IfOk result (λ seats. AreBegun levels (length kinds.now) kinds.now
-        (map m61_number challenges.now) seats.items) }
-    ensures fault { IfErr result (λ fault. fault ≡ OutOfMemory) }
+    requires few { length kinds.now ≤ most_seats }
+    ensures begun { IfOk result (λ seats.
+        AreBegun levels kinds.now (R.stream rng.old) seats.items) }
+    ensures spent { IsErrOf result BeginFault.SeedSpent
+        ↔ (draw_list (levels * length kinds.now) (R.stream rng.old) ≡ None) }
 {
-    let mut seats = Vec::with_capacity(alloc, kinds.len())?;
-    for (index, kind) in kinds.iter().enumerate() {
-        let first = index * levels;
-        let Some(block) = Seat::of(&challenges[first..first + levels]) else {
-            unreachable!()
-        };
-        seats.push(SketchSeat::begin(*kind, block))?;
+    let Ok(mut seats) = Vec::with_capacity(alloc, kinds.len()) else {
+        // A seed that is spent is named before memory that is refused.
+        pass(rng, levels * kinds.len())?;
+        return Err(BeginFault::OutOfMemory);
+    };
+    for kind in kinds {
+        seats.push(next_seat(rng, levels, *kind)?).unwrap();
     }
     Ok(seats)
 }
@@ -114,9 +141,7 @@ impl Sketch {
             ↔ (challenges_of (depth * length kinds.now) seed.now ≡ None) }
     {
         let levels = depth.get() as usize;
-        let count = levels * kinds.len();
-        let challenges = draw_challenges::<MOST_CHALLENGES>(*seed, count)?;
-        let seats = seats_at(alloc, levels, kinds, &challenges)?;
+        let seats = seats_at(alloc, &mut ChaCha20Rng::from_seed(*seed), levels, kinds)?;
         Ok(Sketch {
             depth,
             parts: Parts {

@@ -1,5 +1,5 @@
-//! Laws of the file, and of crashes while it is stored. These functions do nothing: each contract is
-//! a fact that holds.
+//! Laws of the file, and of crashes while it is stored. These functions do nothing: each contract
+//! is a fact that holds.
 
 ghost use Rattle.std.specs.Prelude.{◌≡◌, ◌⊎◌, ◌<◌, ◌++◌, ℕ, List, [], ◌∷◌, Ok, All, None, Some};
 ghost use Rattle.std.specs.Prelude.{Contains, take};
@@ -61,8 +61,8 @@ pub fn a_watch_leaves_whole_files()
         → Contains (may_hold start talk) content ⊎ IsOwnFile every start (Some talk) content }
 {}
 
-/// Whenever a crash comes while parts are added up, the file has what it might have before, or it is
-/// the file of the sum of all parts, whole, of which no used seat is unused.
+/// Whenever a crash comes while parts are added up, the file has what it might have before, or it
+/// is the file of the sum of all parts, whole, of which no used seat is unused.
 pub fn a_merge_leaves_whole_files()
     ensures { (files : Option (ℕ → Option (List ℕ))) (count : ℕ) (start : Option (List ℕ))
         (talk events : List TalkEvent) (status : SketchStatus) (n : ℕ)

@@ -19,6 +19,8 @@
 //! - [`Sketch::absorb`] adds the next part of a stream, which another collector kept: where the one
 //!   sketch stands for a stream and the other for one behind it, the sum stands for both. It says
 //!   why a part is not added, and leaves the sketch as it was then.
+//! - [`Sketch::mark`] marks a seat used, and [`SketchSeat::running`] gives what one keeps, by which
+//!   the replies to a question are judged.
 //! - [`begin`] stores such a sketch in the file of a desk where that is missing, and leaves each
 //!   other file as it is; its status says which. Whenever a crash comes, the file is missing or
 //!   whole ([`laws::a_begin_leaves_whole_files`]).
@@ -47,12 +49,15 @@
 //! | `Joining` | what a sketch and the next part add up to, and why a part is not added |
 //! | `Reading` | what reading answers, and the sketch or the fault that this is |
 //! | `Beginnings` | what each ending of [`begin`] says of its desk and its seed |
-//! | `Showing`, `SeatLines` | what each ending of [`seats`] says of its file and its report; the lines |
+//! | `Showing` | what each ending of [`seats`] says of its file and its report |
+//! | `SeatLines` | the lines of a report |
 //! | `Loaded` | when a file is no sketch, and from which byte on |
+//! | `Marking` | a sketch with a seat that a question has used |
 //! | `Watching` | what is read of a stream that is watched, and when the sketch is stored |
-//! | `Merging` | what parts add up to in the place of a sketch, why one is refused, what is stored |
+//! | `Merging` | what parts add up to in the place of a sketch, and why one is refused |
 //! | `Risen` | which count of faults rose where a call over files answers that a port failed |
-//! | `Files`, `MemoryFiles` | what is loaded of files that are read whole; what those in memory have |
+//! | `Files` | what is loaded of files that are read whole |
+//! | `MemoryFiles` | what those in memory have |
 //! | `Examples` | what the examples work out |
 //!
 //! [`examples`] has two files with their digests, and the first faults of others.

@@ -3,7 +3,7 @@
 ghost use Rattle.std.specs.Prelude.{◌≡◌, ◌<◌, IsTrue, length};
 ghost use Rattle.sip_verifier.specs.QuerySeats.{keeps};
 ghost use Rattle.sip_verifier.specs.Running.{block_of, numbers_of};
-ghost use Rattle.sip_sketch.specs.Marking.{mark};
+ghost use Rattle.sip_sketch.specs.Marking.{mark, used, used_at};
 ghost use Rattle.sip_sketch.specs.Seats.{numbers_kept, query_of};
 
 use crate::seat::running_of;
@@ -18,8 +18,28 @@ impl SketchSeat {
         ensures numbers { numbers_of result
             ≡ numbers_kept self.now.kind self.now.first self.now.second }
     {
-        running_of(self.kind, self.block().clone().unwrap(), self.first(), self.second())
+        running_of(
+            self.kind,
+            self.block().clone().unwrap(),
+            self.first(),
+            self.second(),
+        )
     }
+
+    // A question has it from now on.
+    fn take(&mut self)
+        ensures { self.new ≡ used self.old }
+    {
+        self.is_used = true;
+    }
+}
+
+// Marks the seat at this place used.
+fn take_at(seats: &mut [SketchSeat], place: usize)
+    requires { place < length seats.old }
+    ensures { seats.new ≡ used_at place seats.old }
+{
+    seats[place].take();
 }
 
 impl Sketch {
@@ -28,6 +48,6 @@ impl Sketch {
         requires { place < length self.old.seats }
         ensures { self.new ≡ mark place self.old }
     {
-        self.seats[place].is_used = true;
+        take_at(&mut self.seats, place);
     }
 }

@@ -1,7 +1,8 @@
 -- The seats of a sketch that begins, one after another.
-use Rattle.std.specs.Prelude.{◌≡◌, ℕ, ◌<◌, false, List, [], length, map, take, All}
+use Rattle.std.specs.Prelude.{◌≡◌, ℕ, ◌*◌, ◌<◌, false, List, [], length, map, flat_map, All, Some}
+use Rattle.rand_core.specs.Stream.{Stream}
+use Rattle.sip_field.specs.Draw.{draw_list}
 use Rattle.sip_field.specs.Moduli.{m61_modulus}
-use Rattle.sip_vector.specs.Pieces.{pieces}
 use Rattle.sip_vector.specs.Tallies.{tally}
 use Rattle.sip_sketch.specs.Sketches.{SeatValues}
 use Rattle.sip_sketch.specs.Standing.{SeatStands}
@@ -17,9 +18,9 @@ pub record BeginsAt (depth : ℕ) (s : SeatValues) : Type 0 where
   pub second : HasSecond (tally []) s
   pub stands : SeatStands depth [] s
 
--- those of the first so many kinds, each with the next piece of these numbers
-pub record AreBegun (levels count : ℕ) (asked : List SeatKind) (numbers : List ℕ)
+-- those of these kinds in order, each with the next challenges that the words give
+pub record AreBegun (levels : ℕ) (asked : List SeatKind) (words : Stream)
     (seats : List SeatValues) : Type 0 where
-  pub kinds : map (λ s. s.kind) seats ≡ take count asked
-  pub blocks : map (λ s. s.block) seats ≡ pieces levels count numbers
+  pub kinds : map (λ s. s.kind) seats ≡ asked
+  pub drawn : draw_list (levels * length asked) words ≡ Some (flat_map (λ s. s.block) seats)
   pub each : All (BeginsAt levels) seats

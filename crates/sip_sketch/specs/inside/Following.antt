@@ -45,7 +45,8 @@ module _ (form : Form) (every : Option ℕ) (s : SketchValues) (left : Option (L
   -- they came to the sketch, which was stored each time that it was due, or this was cut
   abbrev pub Stored : Pause → Type 0
   Stored pause =
-      (added : List Update) × IsStored every s added old new × AreAdded form s left left' added pause
+      (added : List Update) × IsStored every s added old new
+      × AreAdded form s left left' added pause
 
   abbrev pub Cut : Type 0
   Cut = (added : List Update) × (pause : Pause) × IsCut every s added old new

@@ -1,40 +1,37 @@
 -- Each seat has its own block of challenges.
-use Rattle.std.proofs.Common.{◌≡◌, ◌+◌, ◌-◌, ◌*◌, ◌<◌, All, length, map, take, drop, List, subst, sym, ap, ◌∙◌, arith}
-use Rattle.std.proofs.lemmas.List.{length-map, take-map, drop-map}
-use Rattle.sip_field.specs.Elements.{m61_number}
-use Rattle.sip_field.specs.Moduli.{m61_modulus}
-use Rattle.sip_verifier.proofs.SeatsGiven.{block-size}
+use Rattle.std.proofs.Common.{◌≡◌, ◌+◌, ◌<◌, [], ◌∷◌, ◌++◌, length, sym, subst, refl, ◌∙◌, arith, rules, List}
+use Rattle.std.proofs.lemmas.Result.{err_from_is_err_and}
 use Rattle.sip_sketch.specs.Sketches.{SeatValues}
 use Rattle.sip_sketch.specs.declared.kind.SeatKind.TheVariants.{Entries}
-use Rattle.sip_sketch.specs.inside.Beginning.{AreBegun}
-use Rattle.sip_sketch.proofs.Begun.{all_below, begun_more, begun_none}
+use Rattle.sip_sketch.proofs.Begun.{AreSoFar, begun_all, begun_more, begun_none, begun_spent}
 use Rattle.sip_sketch.proofs.beginning.seats_at.Goals as goal
 
-pub loop-index-init : goal.loop-index-init
-loop-index-init c =
-    subst (λ (l : List SeatValues). AreBegun c.args.levels 0 c.args.kinds.now (map m61_number c.args.challenges.now) l) (sym c.in_ok-seats.ensures.items)
-    (begun_none c.args.levels c.args.kinds.now (map m61_number c.args.challenges.now))
+pub returns-in_err-next_seat-clause-spent : goal.returns-in_err-next_seat-clause-spent
+returns-in_err-next_seat-clause-spent g c =
+    let p = err_from_is_err_and c.from_residual-in_err-next_seat.result c.from_residual-in_err-next_seat.ensures.1 in
+    let none = begun_spent c.args.levels c.args.kinds.now (g.R.Rng.stream c.args.rng.now) (g.R.Rng.stream c.loop-kind.rng) c.loop-kind.kind-index c.loop-kind.seats.items
+    c.loop-kind.invariant.so_far (omega (arith, c.loop-kind-test.true)) c.in_err-next_seat.ensures.spent in
+    rw (p.1, p.2) (λ _. none, λ _. refl)
 
-pub loop-index-preserved : goal.loop-index-preserved
-loop-index-preserved c =
-    let k = c.args.levels in
-    let numbers = map m61_number c.args.challenges.now in
-    let i = c.loop-index.index in
-    let asked = c.args.kinds.now in
-    let lt : i < length asked = omega arith in
-    let long : length numbers ≡ k * length asked = length-map c.args.challenges.now m61_number ∙ c.requires.count in
-    let levels : (i * k + k) - i * k ≡ k = omega arith in
-    let cut_out = ap (take k) (drop-map m61_number (i * k) c.args.challenges.now) ∙ take-map m61_number k (drop (i * k) c.args.challenges.now) in
-    let block = c.begin.ensures.block ∙ c.in-Some.ensures.same
-    ∙ ap (λ n. map m61_number (take n (drop (i * k) c.args.challenges.now))) levels ∙ sym cut_out in
-    let size = ap length block ∙ block-size k (length asked) i numbers lt long in
-    subst (λ (l : List SeatValues). AreBegun k (i + 1) asked numbers l) (sym c.in_ok-push.ensures.items)
-    (begun_more k i asked numbers c.loop-index.seats.items Entries c.begin.result c.loop-index.invariant lt c.begin.ensures.kind block
-    (record {
-      unused = c.begin.ensures.unused;
-      levels = size;
-      block = subst (All (λ r. r < m61_modulus)) (sym (c.begin.ensures.block ∙ c.in-Some.ensures.same)) (all_below _);
-      first = c.begin.ensures.first;
-      second = c.begin.ensures.second;
-      stands = c.begin.ensures.stands k (ap length (sym c.begin.ensures.block) ∙ size);
-    }))
+pub loop-kind-preserved : goal.loop-kind-preserved
+loop-kind-preserved g c =
+    let x = c.in_ok-next_seat.field-0 in
+    let e = c.in_ok-next_seat.ensures in
+    let items : c.push.new.self.items ≡ c.loop-kind.seats.items ++ x ∷ [] = search rules in
+    record {
+      so_far = subst (AreSoFar c.args.levels c.args.kinds.now (g.R.Rng.stream c.args.rng.now) (g.R.Rng.stream c.next_seat.new.rng) (c.loop-kind.kind-index + 1)) (sym items)
+          (begun_more c.args.levels c.args.kinds.now (g.R.Rng.stream c.args.rng.now) (g.R.Rng.stream c.loop-kind.rng) (g.R.Rng.stream c.next_seat.new.rng) c.loop-kind.kind-index c.loop-kind.seats.items
+          Entries x c.loop-kind.invariant.so_far (omega (arith, c.loop-kind-test.true)) (search rules) e.begins e.drawn e.left);
+      room = search rules;
+    }
+
+pub returns-clause-begun : goal.returns-clause-begun
+returns-clause-begun g c =
+    begun_all c.args.levels c.args.kinds.now (g.R.Rng.stream c.args.rng.now) (g.R.Rng.stream c.loop-kind.rng) c.loop-kind.kind-index c.loop-kind.seats.items
+    c.loop-kind.invariant.so_far (omega (arith, c.loop-kind-test.false))
+
+pub returns-clause-spent : goal.returns-clause-spent
+returns-clause-spent g c =
+    let begun = begun_all c.args.levels c.args.kinds.now (g.R.Rng.stream c.args.rng.now) (g.R.Rng.stream c.loop-kind.rng) c.loop-kind.kind-index c.loop-kind.seats.items
+    c.loop-kind.invariant.so_far (omega (arith, c.loop-kind-test.false)) in
+    (λ e. absurd cc, λ none. (let clash = sym none ∙ begun.drawn in absurd cc))

@@ -1,8 +1,10 @@
--- The seats so far.
-use Rattle.std.proofs.Common.{map}
-use Rattle.sip_field.specs.Elements.{m61_number}
-use Rattle.sip_sketch.specs.inside.Beginning.{AreBegun}
+-- The seats so far, and room for the others.
+use Rattle.std.proofs.Common.{◌≤◌, length, vec_capacity}
+use Rattle.sip_sketch.proofs.Begun.{AreSoFar}
 use Rattle.sip_sketch.proofs.beginning.seats_at.Given as goal
 
-abbrev pub invariant-loop-index : goal.invariant-loop-index
-invariant-loop-index l = AreBegun l.fn.levels l.index l.fn.kinds (map m61_number l.fn.challenges) l.seats.items
+abbrev pub invariant-loop-kind : goal.invariant-loop-kind
+invariant-loop-kind g l = record {
+  so_far : AreSoFar l.levels l.kinds (g.R.Rng.stream l.initial.rng) (g.R.Rng.stream l.rng) l.kind-index l.seats.items;
+  room : length l.kinds ≤ vec_capacity l.seats;
+}
