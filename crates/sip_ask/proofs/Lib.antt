@@ -18,6 +18,7 @@ mod Saying
 mod SeatSteps
 mod Seats
 mod Served
+mod StepsTaken
 mod Stops
 mod StreamBytes
 mod Tested
