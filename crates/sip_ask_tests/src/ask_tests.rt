@@ -167,6 +167,7 @@ fn is_stored(file: Option<&[u8]>, is_used: bool) -> bool {
 #[test]
 fn questions_are_asked(rt: HostRuntime) -> Result<(), Fail> {
     for (number, row) in ROWS.iter().enumerate() {
+        assert!(rt; !row.0.is_empty() && row.0.len() <= 16, "questions of row {number}");
         let mut desk = desk(rt.alloc(), row.1, row.2, 0)?;
         let mut report = MemorySink::new(rt.alloc(), 10_000, Vec::new(rt.alloc()));
         let status = ask(rt.alloc(), row.0, &mut desk, &mut report);
@@ -223,8 +224,11 @@ fn a_talk_has_its_order(rt: HostRuntime) -> Result<(), Fail> {
     assert!(rt; talk[206] == TalkEvent::Out(0x04) && talk[217] == TalkEvent::Out(2), "query");
     assert!(rt; talk[218] == TalkEvent::In(0x13) && talk[255] == TalkEvent::Out(0x05), "reply");
     let stored = it.file().unwrap_or(&[]);
-    let sketch = Sketch::read(rt.alloc(), stored).ok();
-    let uses = sketch.map(|sketch| sketch.seats()[0].is_used());
-    assert!(rt; uses == Some(true), "what is stored");
+    let Ok(sketch) = Sketch::read(rt.alloc(), stored) else {
+        assert!(rt; false, "what is stored");
+        return Ok(());
+    };
+    let is_used = sketch.seats().first().is_some_and(|seat| seat.is_used());
+    assert!(rt; is_used, "the seat of what is stored");
     Ok(())
 }
