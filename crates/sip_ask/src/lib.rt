@@ -10,6 +10,14 @@
 //!
 //! # What is proved
 //!
+//! - [`ask`] ends exactly as `Asking` says: what was loaded, said, stored and written, by its status.
+//!   For each question in order the file with its seat used is stored, and only then is anything
+//!   said of it. What is said then is what a run of questions says, about each stream that the
+//!   sketch stands for. Of a file that stands for no stream, as one that was made by hand, no more
+//!   is said than that order.
+//! - An ask is a run over its file ([`laws::an_ask_is_a_run`]), and keeps the promises of a run of
+//!   questions ([`laws::asks_keep_their_promises`]); there are bytes of each legal stream, so that
+//!   these are no empty promises ([`laws::each_legal_stream_has_bytes`]).
 //! - Whenever a crash comes, each content that the file may have then has used the seats of all
 //!   questions of which a byte was sent ([`laws::said_only_where_used`]).
 //! - Over any runs over one file, each of which may be cut off at any event, no seat serves two
@@ -28,6 +36,8 @@
 //! | `Marking` | a sketch with used seats, and which contents of the file have a seat used |
 //! | `Turns` | in which order the file and the link are used |
 //! | `Asking` | what an ask did, by its status |
+//! | `Causes` | which faults an ask ends for, and how it ends behind its opening |
+//! | `Promises` | what it promises: that of a run of questions over the stream |
 //! | `Runs` | runs over one file, each cut off somewhere, and that no seat serves two questions |
 //! | `Counting` | what may become of each seat, and which wrong answers are counted |
 //! | `Examples` | what the examples work out |
