@@ -50,7 +50,8 @@ pub fn a_marked_sketch_is_the_same()
 /// said.
 pub fn said_only_where_used()
     ensures { (start : Option (List ℕ)) (talk opened behind : List TalkEvent)
-        (s : SketchValues) (turns : List Turn) (count place : ℕ) (content : Option (List ℕ)) → IsSketch s
+        (s : SketchValues) (turns : List Turn) (count place : ℕ)
+        (content : Option (List ℕ)) → IsSketch s
         → IsOfLink opened → AreTurns s turns → IsOfLink behind
         → Contains (places_said (count - length opened) turns) place
         → Contains (may_hold start

@@ -31,13 +31,21 @@ const USED_DIGEST: [u8; 32] = [
 ];
 
 // What the other end holds, the honest replies to `sub:1:2`, and other siblings for reply 0.
-const HELD: &[u8] = b"\x26\0\x20\0\0\0\0\0\0\0\x03\0\0\0\0\0\0\0\x09\0\0\0\0\0\0\0\0\xb8\x26\x1a\xe7\xdb\x4f\xab\0";
+const HELD: &[u8] = &[
+    0x26, 0x00, 0x20, 0x00, 0x00, 0x00, 0x00, 0x00, 0x00, 0x00, 0x03, 0x00, 0x00, 0x00, 0x00, 0x00,
+    0x00, 0x00, 0x09, 0x00, 0x00, 0x00, 0x00, 0x00, 0x00, 0x00, 0x00, 0xb8, 0x26, 0x1a, 0xe7, 0xdb,
+    0x4f, 0xab, 0x00,
+];
 const ENTRIES: &[u8] = b"\x13\0\x0e\0\x01\0\0\0\x02\0\0\0\0\0\0\0\x05";
 const SIBLINGS: &[u8] = b"\x14\0\x11\x03\0\0\0\0\0\0\0\x03\0\0\0\0\0\0\0\x01";
 const LIES: &[u8] = b"\x14\0\x11\x03\0\0\0\0\0\0\0\x01\0\0\0\0\0\0\0\x01";
 const NO_SIBLINGS: &[u8] = b"\x14\0\x01\0";
 
-const OTHER_HELD: &[u8] = b"\x26\0\x20\0\0\0\0\0\0\0\x04\0\0\0\0\0\0\0\x09\0\0\0\0\0\0\0\0\xb8\x26\x1a\xe7\xdb\x4f\xab\0";
+const OTHER_HELD: &[u8] = &[
+    0x26, 0x00, 0x20, 0x00, 0x00, 0x00, 0x00, 0x00, 0x00, 0x00, 0x04, 0x00, 0x00, 0x00, 0x00, 0x00,
+    0x00, 0x00, 0x09, 0x00, 0x00, 0x00, 0x00, 0x00, 0x00, 0x00, 0x00, 0xb8, 0x26, 0x1a, 0xe7, 0xdb,
+    0x4f, 0xab, 0x00,
+];
 
 const SUB: Question = Question::Query(Query::Sub { lo: 1, hi: 2 });
 const SQUARES: Question = Question::Query(Query::F2 { side: Side::First });
@@ -82,8 +90,8 @@ const STORE_FAULT: AskStatus = AskStatus::WriteFault {
 };
 
 // The questions; the parts of what the other end says; which calls of the desk fail, of which the
-// first loads, two send the opening, two receive what is held, and the sixth stores; the status; the
-// report; and whether the first seat is used then.
+// first loads, two send the opening, two receive what is held, and the sixth stores; the status;
+// the report; and whether the first seat is used then.
 type Row<'a> = (
     &'a [Question],
     &'a [&'a [u8]],
