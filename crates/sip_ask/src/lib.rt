@@ -45,7 +45,6 @@
 //! [`examples`] works out which seats questions take, and the file of a sketch with a used seat.
 #![tactic(auto)]
 
-mod ask;
 mod asking;
 mod choosing;
 mod ending;
@@ -53,7 +52,8 @@ pub mod examples;
 pub mod laws;
 mod opening;
 mod status;
+mod steps;
 
-pub use ask::ask;
 pub use choosing::{Places, choose};
 pub use status::{AskPort, AskStatus};
+pub use steps::ask;

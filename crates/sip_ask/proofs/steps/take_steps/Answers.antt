@@ -7,7 +7,7 @@ use Rattle.sip_questions.specs.Questions.{version_for}
 use Rattle.sip_sketch.specs.Sketches.{SketchValues}
 use Rattle.sip_ask.proofs.AskEnds.{opened-asks, talked-asks}
 use Rattle.sip_ask.proofs.StepsTaken.{asks_as, opens_as, stops_so, stores_as}
-use Rattle.sip_ask.proofs.ask.take_steps.Goals as goal
+use Rattle.sip_ask.proofs.steps.take_steps.Goals as goal
 
 pub returns-in_err-open-clause-asks : goal.returns-in_err-open-clause-asks
 returns-in_err-open-clause-asks g c =
