@@ -41,7 +41,6 @@ use Rattle.sip_questions.proofs.PromisedRuns.{promised}
 use Rattle.sip_sketch.specs.Fields.{IsValue}
 use Rattle.sip_sketch.specs.Sketches.{IsSketch, SeatValues, SketchValues, element}
 use Rattle.sip_sketch.specs.Standing.{Stands}
-use Rattle.sip_sketch.specs.declared.cursor.Size.TheVariants.{Long}
 use Rattle.sip_sketch.specs.declared.kind.SeatKind.TheVariants as kinds
 use Rattle.sip_sketch.proofs.Whole.{SeatFits, fits_from, ranged_from}
 use Rattle.sip_ask.specs.Asking.{AsksAll, IsInTalk, as_result}
@@ -67,7 +66,7 @@ seat-whole s is place d inside =
     let fits = All-get_or (SeatFits s.depth s.tally) s.seats place d inside (fits_from s is) in
     let whole : IsWhole s.depth (get_or s.seats place d).block = record {
       size = fits.levels;
-      below = λ k e lt. let most = (ranged_from Long 0 (m61_modulus - 1) (get_or (get_or s.seats place d).block k e) (fits.block k e lt)).1 in omega (arith, most);
+      below = λ k e lt. let most = (ranged_from element.size 0 (m61_modulus - 1) (get_or (get_or s.seats place d).block k e) (fits.block k e lt)).1 in omega (arith, most);
     } in
     subst (IsWhole s.depth) (sym (block-at s.seats place d inside)) whole
 

@@ -3,7 +3,7 @@ use Rattle.std.proofs.Common.{◌≡◌, ℕ, suc, ◌+◌, ◌-◌, ◌<◌, �
 use Rattle.std.specs.Prelude.{◌-ℤ◌, Result, Ok, Err}
 use Rattle.std.specs.Int.{from_bool}
 use Rattle.std.proofs.lemmas.Int.{ints}
-use Rattle.std.proofs.lemmas.List.Elements.{All-head, All-tail}
+use Rattle.std.proofs.lemmas.List.Elements.{All-get_or, All-head, All-tail}
 use Rattle.sip_vector.specs.Streams.{most_weight}
 use Rattle.sip_vector.specs.Thresholds.{is_wide, share_of}
 use Rattle.sip_vector.specs.declared.query.Query.{Query}
@@ -25,15 +25,14 @@ use Rattle.sip_questions.specs.declared.seat.QuestionSeat.{QuestionSeat}
 use Rattle.sip_questions.specs.declared.seat.QuestionSeat.TheVariants as seats
 use Rattle.sip_sketch.specs.Fields.{Field, IsValue}
 use Rattle.sip_sketch.specs.Seats.{numbers_kept}
-use Rattle.sip_sketch.specs.Sketches.{SeatValues, code_of, second_of, total_field}
-use Rattle.sip_sketch.specs.declared.cursor.Size.TheVariants.{Long}
+use Rattle.sip_sketch.specs.Sketches.{IsSketch, SeatValues, SketchValues, code_of, second_of, total_field}
 use Rattle.sip_sketch.specs.declared.kind.SeatKind.{SeatKind}
 use Rattle.sip_sketch.specs.declared.kind.SeatKind.TheVariants as kinds
 use Rattle.sip_sketch.proofs.Kept as kept
 use Rattle.sip_sketch.proofs.Kept.{heavy_field}
-use Rattle.sip_sketch.proofs.Whole.{SeatFits, ranged_from}
+use Rattle.sip_sketch.proofs.Whole.{SeatFits, fits_from, ranged_from}
 use Rattle.sip_ask.specs.Choosing.{is_high_of, is_signed, is_wide_of, kind_for, kind_of, negative_told, weight_told}
-use Rattle.sip_ask.specs.inside.Seating.{IsTested}
+use Rattle.sip_ask.specs.inside.Seating.{IsSeat, IsTested, Serves}
 
 -- ---- what a seat keeps of a total
 
@@ -47,7 +46,7 @@ same-negative t Second = refl
 
 exact-total : (w x : ℕ) → IsValue (total_field w false) x → pos x -ℤ pos most_weight ≡ pos w
 exact-total w x value =
-    let both = ranged_from Long (most_weight + w) (most_weight + w) x value in
+    let both = ranged_from (total_field w false).size (most_weight + w) (most_weight + w) x value in
     omega (arith, ints, both.0, both.1)
 
 kept-total : (t : Tally) (side : Side) (x : ℕ) → negative_told t side ≡ false → IsValue (second_of t (code_of (kinds.Heavy side)) (from_bool false)) x
@@ -110,6 +109,14 @@ seat-refuses depth t q seat result number fits kind unused tested asks keeps =
     refuses-none (weight_told t) number result
     (subst (λ (x : Question). is_wide_at x (running_at result) ≡ false) (sym asks) (subst (λ (n : RunningNumbers). is_wide_at q n ≡ false) (sym running) narrow))
     (subst (λ (x : Question). is_high_by (weight_told t) x ≡ false) (sym asks) (question-low t q tested))
+
+-- that of the seat at a place which serves it
+pub seat-free : (s : SketchValues) (is : IsSketch s) (q : Question) (place : ℕ) (own : SeatValues) (result : QuestionSeat) (number : ℕ) → own ≡ get_or s.seats place own → Serves s q place
+    → IsTested s.tally q → question_at result ≡ q → running_at result ≡ numbers_kept own.kind own.first own.second → refusal_at (weight_told s.tally) number result ≡ None
+seat-free s is q place own result number at serves tested asks keeps =
+    let fits = subst (SeatFits s.depth s.tally) (sym at) (All-get_or (SeatFits s.depth s.tally) s.seats place own serves.inside (fits_from s is)) in
+    let seat = subst (IsSeat q) (sym at) (serves.seat own) in
+    seat-refuses s.depth s.tally q own result number fits seat.kind seat.unused tested asks keeps
 
 -- so none of them is refused
 pub seats-refuse : (weight : Side → ℕ) (number : ℕ) (all : List QuestionSeat) → All (λ seat. (k : ℕ) → refusal_at weight k seat ≡ None) all

@@ -19,9 +19,8 @@ use Rattle.sip_questions.specs.Sittings.{query_like}
 use Rattle.sip_questions.specs.declared.question.Question.{Question}
 use Rattle.sip_questions.specs.declared.question.Question.TheVariants as questions
 use Rattle.sip_sketch.specs.Seats.{numbers_kept, query_of}
-use Rattle.sip_sketch.specs.Sketches.{IsSketch, SeatValues, SketchValues}
+use Rattle.sip_sketch.specs.Sketches.{IsSketch, SeatValues, SketchValues, byte}
 use Rattle.sip_sketch.specs.Standing.{SeatStands, Stands}
-use Rattle.sip_sketch.specs.declared.cursor.Size.TheVariants.{Byte}
 use Rattle.sip_sketch.specs.declared.kind.SeatKind.{SeatKind}
 use Rattle.sip_sketch.proofs.Whole.{head_from, ranged_from}
 use Rattle.sip_ask.specs.Choosing.{fits, kind_for, kind_of}
@@ -76,10 +75,10 @@ served-runs depth stream question seat fit kind stands =
 -- ---- the version
 
 pub sketch-deep : (s : SketchValues) → IsSketch s → s.depth ≤ most_depth
-sketch-deep s is = (ranged_from Byte 1 most_depth s.depth (head_from s is).depth).1
+sketch-deep s is = (ranged_from (byte 1 most_depth).size 1 most_depth s.depth (head_from s is).depth).1
 
 pub sketch-some : (s : SketchValues) → IsSketch s → 1 ≤ s.depth
-sketch-some s is = (ranged_from Byte 1 most_depth s.depth (head_from s is).depth).0
+sketch-some s is = (ranged_from (byte 1 most_depth).size 1 most_depth s.depth (head_from s is).depth).0
 
 pub sketch-shallow : (s : SketchValues) (asked : List Question) → IsSketch s → s.depth ≤ deepest (version_for s.depth asked)
 sketch-shallow s asked is = depth-shallow s.depth (queries_among asked) (sketch-deep s is)
