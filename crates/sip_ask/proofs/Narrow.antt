@@ -13,9 +13,11 @@ use Rattle.sip_vector.specs.declared.update.Side.{Side}
 use Rattle.sip_vector.specs.declared.update.Side.TheVariants.{First, Second}
 use Rattle.sip_wire.specs.declared.version.Version.{Version}
 use Rattle.sip_verifier.specs.QuerySeats.{RunningNumbers}
+use Rattle.sip_verifier.specs.Weights.{weight_in}
 use Rattle.sip_verifier.specs.Widths.{is_wide_seat}
 use Rattle.sip_verifier.specs.declared.status.Status.{Status}
 use Rattle.sip_verifier.specs.declared.status.Status.TheVariants as runs
+use Rattle.sip_verifier.specs.declared.weights.Weights.{Weights}
 use Rattle.sip_moments.specs.Moments.{is_too_high}
 use Rattle.sip_questions.specs.Questions.{first_by}
 use Rattle.sip_questions.specs.Sittings.{QuestionSitting, Starts, question_at, refusal_at, running_at}
@@ -128,7 +130,7 @@ seats-refuse weight number (seat ∷ all) none =
     rw here (seats-refuse weight (suc number) all (All-tail P seat all none))
 
 -- and only memory may be wanting
-pub starts-wanting : (version : Version) (depth : ℕ) (weight : Side → ℕ) (all : List QuestionSeat) (status : Status) → first_by (refusal_at weight) 1 all ≡ None
+starts-wanting : (version : Version) (depth : ℕ) (weight : Side → ℕ) (all : List QuestionSeat) (status : Status) → first_by (refusal_at weight) 1 all ≡ None
     → Starts version depth weight all (Err status) → status ≡ runs.OutOfMemory
 starts-wanting version depth weight all runs.OutOfMemory none starts = refl
 starts-wanting version depth weight all runs.Accepted none starts = absurd cc
@@ -147,3 +149,14 @@ starts-wanting version depth weight all (runs.ReadFault port) none starts = absu
 starts-wanting version depth weight all (runs.WriteFault port) none starts = absurd cc
 starts-wanting version depth weight all runs.PeerFault none starts = absurd cc
 starts-wanting version depth weight all runs.PeerClosed none starts = absurd cc
+
+-- where these are the weights of the sketch
+pub starts-none : (version : Version) (depth : ℕ) (t : Tally) (w : Weights) (all : List QuestionSeat) (status : Status) → w.first ≡ t.first → w.second ≡ t.second
+    → first_by (refusal_at (weight_told t)) 1 all ≡ None → Starts version depth (weight_in w) all (Err status) → status ≡ runs.OutOfMemory
+starts-none version depth t w all status first second none starts =
+    let same : weight_in w ≡ weight_told t = λ i side. by_side side i in
+    starts-wanting version depth (weight_in w) all status (ap (λ (weight : Side → ℕ). first_by (refusal_at weight) 1 all) same ∙ none) starts
+  where
+    by_side : (side : Side) → weight_in w side ≡ weight_told t side
+    by_side First = first
+    by_side Second = second

@@ -6,6 +6,7 @@ ghost use Rattle.sip_ports.specs.Ports.{GoesOn, Lasts, Rose};
 ghost use Rattle.sip_vector.specs.declared.update.Update.{Update as AnyUpdate};
 ghost use Rattle.sip_wire.specs.Table.{most_queries};
 ghost use Rattle.sip_wire.specs.declared.version.Version.{Version as AnyVersion};
+ghost use Rattle.sip_verifier.specs.declared.status.Status.TheVariants as runs;
 ghost use Rattle.sip_questions.specs.Promises.{CanPose};
 ghost use Rattle.sip_questions.specs.Questions.{first_by, version_for};
 ghost use Rattle.sip_questions.specs.Sittings.{CanAsk, StandsAt, StandsOn, ask_at, refusal_at};
@@ -114,6 +115,17 @@ fn seated(
     Ok(seats)
 }
 
+// Why there is nothing that asks, where what a seat refuses was tested: memory was refused.
+fn wanting(status: Status) -> AskStatus
+    requires { status ≡ runs.OutOfMemory }
+    ensures { result ≡ statuses.OutOfMemory }
+{
+    match status {
+        Status::OutOfMemory => AskStatus::OutOfMemory,
+        _ => unreachable!(),
+    }
+}
+
 // All memory that asking takes.
 fn ready(
     alloc: Global,
@@ -142,9 +154,7 @@ fn ready(
     };
     let asker = match QuestionAsker::new(alloc, version, sketch.depth(), seats, &weights) {
         Ok(asker) => asker,
-        Err(Status::OutOfMemory) => return Err(AskStatus::OutOfMemory),
-        // What a seat refuses was tested.
-        Err(_) => unreachable!(),
+        Err(status) => return Err(wanting(status)),
     };
     let Ok(file) = Vec::with_capacity(alloc, sketch.size()) else {
         return Err(AskStatus::OutOfMemory);
