@@ -216,16 +216,16 @@ module _ (asked : List Question) (start : Option (List ℕ)) (talk : List TalkEv
   ask-run (statuses.BadSketch offset) (file, loads, bad, (same, unwritten)) = idle-run start talk new same
   ask-run statuses.Busy (same, unwritten) = idle-run start talk new same
   ask-run statuses.ReadFault (same, unwritten) = idle-run start talk new same
-  ask-run statuses.NotWhole (s, loaded, refused, (same, unwritten)) = idle-run start talk new same
-  ask-run (statuses.Unfit query) (s, loaded, refused, (same, unwritten)) = idle-run start talk new same
-  ask-run (statuses.Signed query) (s, loaded, refused, (same, unwritten)) = idle-run start talk new same
-  ask-run (statuses.NoSeat query) (s, loaded, refused, (same, unwritten)) = idle-run start talk new same
-  ask-run (statuses.TooWide query) (s, loaded, refused, (same, unwritten)) = idle-run start talk new same
-  ask-run (statuses.TooHigh query) (s, loaded, refused, (same, unwritten)) = idle-run start talk new same
+  ask-run statuses.NotWhole (s, was, refused, (same, unwritten)) = idle-run start talk new same
+  ask-run (statuses.Unfit query) (s, was, refused, (same, unwritten)) = idle-run start talk new same
+  ask-run (statuses.Signed query) (s, was, refused, (same, unwritten)) = idle-run start talk new same
+  ask-run (statuses.NoSeat query) (s, was, refused, (same, unwritten)) = idle-run start talk new same
+  ask-run (statuses.TooWide query) (s, was, refused, (same, unwritten)) = idle-run start talk new same
+  ask-run (statuses.TooHigh query) (s, was, refused, (same, unwritten)) = idle-run start talk new same
   ask-run (statuses.OutOfStep held kept) (s, places, (is, loads), chosen, events, (same, own, other), goes, unwritten) =
       let version = version_for s.depth asked in
       opened-run start talk new s is loads version events (subst (IsOpening version s) (sym same) (heard-opening start talk new s is loads version (spelling version (messages.Held held)))) goes
-  ask-run statuses.BadFrame (s, places, (is, loads), chosen, events, (bytes, same, bad), goes, unwritten) =
+  ask-run statuses.BadFrame (s, places, (is, loads), chosen, events, (bytes, same, fault, of_bytes, bad), goes, unwritten) =
       let version = version_for s.depth asked in
       opened-run start talk new s is loads version events (subst (IsOpening version s) (sym same) (heard-opening start talk new s is loads version bytes)) goes
   ask-run statuses.PeerClosed (s, places, (is, loads), chosen, events, (bytes, same, closed), goes, unwritten) =
