@@ -1,5 +1,5 @@
 -- The promises of questions hold of a call that asks a sketch.
-use Rattle.std.proofs.Common.{◌≡◌, ◌⊎◌, ℕ, zero, suc, ◌+◌, ◌-◌, ◌^◌, ◌<◌, ◌≤◌, List, [], ◌∷◌, ◌++◌, length, map, drop, take, flat_map, replicate, get_or, All, Option, Some, None, inl, inr, refl, sym, ap, subst, ◌∙◌, append_assoc, append-nil, arith}
+use Rattle.std.proofs.Common.{◌≡◌, ◌⊎◌, ℕ, zero, suc, ◌+◌, ◌-◌, false, ◌^◌, ◌<◌, ◌≤◌, List, [], ◌∷◌, ◌++◌, length, map, drop, take, flat_map, replicate, get_or, All, Option, Some, None, inl, inr, refl, sym, ap, subst, ◌∙◌, append_assoc, append-nil, arith}
 use Rattle.std.specs.Prelude.{Result, Ok, Err}
 use Rattle.std.specs.List.{AllZip}
 use Rattle.std.proofs.lemmas.List.{append_cancel_left, length-map, length-replicate, take-map}
@@ -37,7 +37,6 @@ use Rattle.sip_questions.specs.LawProofs.Waiting.{waits_lawful}
 use Rattle.sip_questions.specs.Promises.{CanRun, IsWhole, QuestionClauses}
 use Rattle.sip_questions.specs.Questions.{Answered, asking, first_refusal, version_for}
 use Rattle.sip_questions.specs.declared.question.Question.{Question}
-use Rattle.sip_questions.proofs.PromisedRuns.{promised}
 use Rattle.sip_sketch.specs.Fields.{IsValue}
 use Rattle.sip_sketch.specs.Sketches.{IsSketch, SeatValues, SketchValues, element}
 use Rattle.sip_sketch.specs.Standing.{Stands}
@@ -57,6 +56,10 @@ use Rattle.sip_ask.proofs.Chosen.{block-at, chosen-is}
 use Rattle.sip_ask.proofs.LinkTalks.{link-append, link-same, linked, linked-goes}
 use Rattle.sip_ask.proofs.Served.{fit-pose, sketch-shallow, sketch-some}
 use Rattle.sip_ask.proofs.Unsigned.{none-refused}
+
+-- a run that keeps to the clauses of verdicts, of the talk and of causes keeps to all
+abbrev pub AreKept : Type 0
+AreKept = (r : Run Question) (x : Exchange) (before now : Counts) (status : Status) → CanRun r x → Ended asking r x before now status → QuestionClauses r x before now status
 
 -- ---- blocks
 
@@ -245,13 +248,13 @@ module _ (asked : List Question) (s : SketchValues) (places : List (Option ℕ))
 
   module _ (talk0 lines0 : List TalkEvent) (new full : Option (List TalkEvent)) (goes : new ≡ Some (talk0 ++ behind)) (writes : full ≡ Some (lines0 ++ outs report))
       (before now : Counts) where
-    abbrev start : Option (List TalkEvent)
-    start = Some (of_link talk0)
+    abbrev begun : Option (List TalkEvent)
+    begun = Some (of_link talk0)
 
-    told : (more : List TalkEvent) → GoesOn start (linked new) more → x.talk ≡ stream_sent version s.depth (updates r x) ++ more
+    told : (more : List TalkEvent) → GoesOn begun (linked new) more → x.talk ≡ stream_sent version s.depth (updates r x) ++ more
     told more on =
         let link : linked new ≡ Some (of_link talk0 ++ of_link behind) = ap linked goes ∙ ap Some (link-append talk0 behind) in
-        let both : of_link talk0 ++ of_link behind ≡ of_link talk0 ++ more = subst (λ (o : Option (List TalkEvent)). GoesOn start o more) link on in
+        let both : of_link talk0 ++ of_link behind ≡ of_link talk0 ++ more = subst (λ (o : Option (List TalkEvent)). GoesOn begun o more) link on in
         let same = append_cancel_left (of_link talk0) (of_link behind) more both in
         as_if.talk ∙ ap (λ (us : List Update). stream_sent version s.depth us ++ of_link behind) (sym same-updates)
         ∙ ap (λ (l : List TalkEvent). stream_sent version s.depth (updates r x) ++ l) same
@@ -268,32 +271,32 @@ module _ (asked : List Question) (s : SketchValues) (places : List (Option ℕ))
     moved : (P : List Update → List (List ℕ) → Type 0) → P stream (map (block_for s) places) → P (updates r x) (cut s.depth ChallengesOf)
     moved P p = subst (λ (us : List Update). P us (cut s.depth ChallengesOf)) (sym same-updates) (subst (P stream) (sym are-cut) p)
 
-    moved-passed : (said text : List TalkEvent) (count : ℕ) → PassedBy (asking version s.depth stream) asked (map (block_for s) places) start (Some (of_link said)) (Some lines0) (Some text) count
-        → PassedBy (asking version s.depth (updates r x)) asked (cut s.depth ChallengesOf) start (Some (of_link said)) (Some lines0) (Some text) count
-    moved-passed said text count = moved (λ us bs. PassedBy (asking version s.depth us) asked bs start (Some (of_link said)) (Some lines0) (Some text) count)
+    moved-passed : (said text : List TalkEvent) (count : ℕ) → PassedBy (asking version s.depth stream) asked (map (block_for s) places) begun (Some (of_link said)) (Some lines0) (Some text) count
+        → PassedBy (asking version s.depth (updates r x)) asked (cut s.depth ChallengesOf) begun (Some (of_link said)) (Some lines0) (Some text) count
+    moved-passed said text count = moved (λ us bs. PassedBy (asking version s.depth us) asked bs begun (Some (of_link said)) (Some lines0) (Some text) count)
 
-    moved-ends : (end : Status) → EndsWith (asking version s.depth stream) asked (map (block_for s) places) start (linked new) (Some lines0) full end
-        → EndsWith (asking version s.depth (updates r x)) asked (cut s.depth ChallengesOf) start (linked new) (Some lines0) full end
-    moved-ends end = moved (λ us bs. EndsWith (asking version s.depth us) asked bs start (linked new) (Some lines0) full end)
+    moved-ends : (end : Status) → EndsWith (asking version s.depth stream) asked (map (block_for s) places) begun (linked new) (Some lines0) full end
+        → EndsWith (asking version s.depth (updates r x)) asked (cut s.depth ChallengesOf) begun (linked new) (Some lines0) full end
+    moved-ends end = moved (λ us bs. EndsWith (asking version s.depth us) asked bs begun (linked new) (Some lines0) full end)
 
-    said-ended : SaidBye version s stream stands.legal.items asked places start (Some lines0) new full → Ended asking r x before now runs.Accepted
+    said-ended : SaidBye version s stream stands.legal.items asked places begun (Some lines0) new full → Ended asking r x before now runs.Accepted
     said-ended b =
-        bye-ended r x ChallengesOf start (Some lines0) new full talk0 lines0 refl legal-to-end may-ask told wrote before now b.talk b.lines b.same
+        bye-ended r x ChallengesOf begun (Some lines0) new full talk0 lines0 refl legal-to-end may-ask told wrote before now b.talk b.lines b.same
         (moved-passed b.talk b.lines (length asked) b.done) b.bye as_if.read
 
-    stopped-ended : (end : Status) → Stopped version s stream stands.legal.items asked places start (Some lines0) new full end → FaultClause before now end → Ended asking r x before now end
+    stopped-ended : (end : Status) → Stopped version s stream stands.legal.items asked places begun (Some lines0) new full end → FaultClause before now end → Ended asking r x before now end
     stopped-ended end (inl e) cause =
-        query-ended r x ChallengesOf start (Some lines0) new full talk0 lines0 refl legal-to-end may-ask told wrote before now end (moved-ends end e) cause
+        query-ended r x ChallengesOf begun (Some lines0) new full talk0 lines0 refl legal-to-end may-ask told wrote before now end (moved-ends end e) cause
     stopped-ended end (inr (inl b)) cause =
-        cut-ended r x ChallengesOf start (Some lines0) new full talk0 lines0 refl legal-to-end may-ask told wrote before now b.talk b.lines b.count end b.same
+        cut-ended r x ChallengesOf begun (Some lines0) new full talk0 lines0 refl legal-to-end may-ask told wrote before now b.talk b.lines b.count end b.same
         (moved-passed b.talk b.lines (length asked) b.done) b.short b.bye b.stop cause as_if.read
     stopped-ended end (inr (inr b)) cause =
         subst (Ended asking r x before now) (sym b.stop)
-        (gap-ended r x ChallengesOf start (Some lines0) new full talk0 lines0 refl legal-to-end may-ask told wrote before now b.talk b.lines b.number b.same
+        (gap-ended r x ChallengesOf begun (Some lines0) new full talk0 lines0 refl legal-to-end may-ask told wrote before now b.talk b.lines b.number b.same
         (moved-passed b.talk b.lines b.number b.done) b.unsent)
 
     abbrev Came_to : AskStatus → Type 0
-    Came_to status = Ends version s stream stands.legal.items asked places start (Some lines0) new full (as_result status)
+    Came_to status = Ends version s stream stands.legal.items asked places begun (Some lines0) new full (as_result status)
 
     ended : (status : AskStatus) (end : Status) → Came_to status → run_status status ≡ Some end → FaultClause before now end → Ended asking r x before now end
     ended statuses.Accepted end b same cause = let own : runs.Accepted ≡ end = cc in subst (Ended asking r x before now) own (said-ended b)
@@ -314,19 +317,19 @@ module _ (asked : List Question) (s : SketchValues) (places : List (Option ℕ))
     ended statuses.PeerClosed end b same cause = absurd cc
     ended statuses.ReadFault end b same cause = absurd cc
 
-    kept : (status : AskStatus) (end : Status) → run_status status ≡ Some end → HasRisen before.peer now.peer before.report now.report status
+    kept : (law : AreKept) (status : AskStatus) (end : Status) → run_status status ≡ Some end → HasRisen before.peer now.peer before.report now.report status
         → AsksAll version (asking version s.depth stream) s 1 asked places (Some talk0) new (Some lines0) full (as_result status)
         → QuestionClauses r x before now end
-    kept status end same rose asks =
-        let came_to = ends-of version s stream stands.legal.items asked places start (Some lines0) stands.told (chosen-is s asked places chosen).take tested
+    kept law status end same rose asks =
+        let came_to = ends-of version s stream stands.legal.items asked places begun (Some lines0) stands.told (chosen-is s asked places chosen).take tested
         talk0 lines0 new full (as_result status) refl refl asks in
-        promised r x can-run before now end (ended status end came_to same (fault-of before now status end same rose))
+        law r x before now end can-run (ended status end came_to same (fault-of before now status end same rose))
 
 -- the call keeps them, over each stream that the loaded sketch stands for
-pub ask-keeps : (asked : List Question) (start : Option (List ℕ)) (old new blank full : Option (List TalkEvent)) (status : AskStatus)
+pub ask-keeps : (law : AreKept) (asked : List Question) (start : Option (List ℕ)) (old new blank full : Option (List TalkEvent)) (status : AskStatus)
     (t : IsInTalk asked start old new blank full status) (before now : Counts) → HasRisen before.peer now.peer before.report now.report status
     → AskClauses asked t.s t.places old new blank full before now status
-ask-keeps asked start old new blank full status t before now rose = λ stream stands talk behind wrote report was blank_was goes writes end same form x as_if.
+ask-keeps law asked start old new blank full status t before now rose = λ stream stands talk behind wrote report was blank_was goes writes end same form x as_if.
     let version = version_for t.s.depth asked in
     let opening = recall_sent version t.s.depth t.s.tally.count ++ held_heard version (held_by t.s.tally) in
     let mid : t.mid ≡ Some (talk ++ opening) = GoesOn-told talk t.mid opening (subst (λ (o : Option (List TalkEvent)). GoesOn o t.mid opening) was t.opened) in
@@ -336,4 +339,4 @@ ask-keeps asked start old new blank full status t before now rose = λ stream st
     let full_is : full ≡ Some (wrote ++ outs report) = GoesOn-told wrote full (outs report) (subst (λ (o : Option (List TalkEvent)). GoesOn o full (outs report)) blank_was writes) in
     let asks = subst (λ (o : Option (List TalkEvent)). AsksAll version (asking version t.s.depth stream) t.s 1 asked t.places (Some (talk ++ opening)) new o full (as_result status)) blank_was
     (subst (λ (o : Option (List TalkEvent)). AsksAll version (asking version t.s.depth stream) t.s 1 asked t.places o new blank full (as_result status)) mid (t.asks stream stands)) in
-    kept asked t.s t.places t.loaded.0 t.chosen stream stands form x behind report as_if (talk ++ opening) wrote new full came full_is before now status end same rose asks
+    kept asked t.s t.places t.loaded.0 t.chosen stream stands form x behind report as_if (talk ++ opening) wrote new full came full_is before now law status end same rose asks

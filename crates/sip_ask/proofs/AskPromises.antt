@@ -318,7 +318,7 @@ module _ (version : Version) (s : SketchValues) (stream : List Update) (below : 
     ends-none talk lines new full (Ok x) done same bye = record { talk = talk; lines = lines; done = done; bye = bye; same = same }
     ends-none talk lines new full (Err status) done same bye = stop-bye talk lines new full status done same bye
 
-    pub ends-all : (count : ℕ) (left : List Question) (taken : List (Option ℕ)) (now : SketchValues) (talk lines : List TalkEvent) (new full : Option (List TalkEvent))
+    ends-all : (count : ℕ) (left : List Question) (taken : List (Option ℕ)) (now : SketchValues) (talk lines : List TalkEvent) (new full : Option (List TalkEvent))
         (result : Result (Unit {0}) AskStatus) → Left count left taken now → Done talk lines count
         → AsksAll version m now (suc count) left taken (Some talk) new (Some lines) full result → Ends new full result
     ends-all count [] taken now talk lines new full result l done (bye, same) =

@@ -1,5 +1,5 @@
 -- A talk without what is done to the file: what came of a question is seen in it as well.
-use Rattle.std.proofs.Common.{◌≡◌, ◌⊎◌, ℕ, zero, suc, Bool, true, false, cond, List, [], ◌∷◌, ◌++◌, map, take, Option, Some, None, inl, inr, refl, sym, ap, subst, ◌∙◌}
+use Rattle.std.proofs.Common.{◌≡◌, ◌⊎◌, ℕ, zero, suc, Bool, true, false, cond, List, [], ◌∷◌, ◌++◌, map, flat_map, take, Option, Some, None, inl, inr, refl, sym, ap, subst, ◌∙◌}
 use Rattle.std.specs.Prelude.{Result, Ok, Err, IsTrue}
 use Rattle.sip_ports.specs.Desk.{IsOfLink, steps}
 use Rattle.sip_ports.specs.Ports.{GoesOn, ins, outs}
@@ -116,7 +116,8 @@ module _ (version : Version) (depth : ℕ) where
 
   look-of-link : (q : lookups.Question) → IsOfLink (lookups.said_for version depth q)
   look-of-link q =
-      IsOfLink-append (sent version (ask_message q.query ∷ [])) (lookups.said_back version depth q q.replies) (IsOfLink-outs _) (back-of-link q q.replies)
+      IsOfLink-append (sent version (ask_message q.query ∷ [])) (lookups.said_back version depth q q.replies)
+      (IsOfLink-outs (flat_map (spelling version) (ask_message q.query ∷ []))) (back-of-link q q.replies)
 
 module _ (version : Version) (depth : ℕ) (stream : List Update) where
   said-of-link : (q : Posed) (question : Question) → IsOfLink (said_of version depth stream q question)

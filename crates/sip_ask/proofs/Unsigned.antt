@@ -6,13 +6,11 @@ use Rattle.std.proofs.lemmas.Bool.{lt-leb, ltb-true, not-true, or_parts}
 use Rattle.std.proofs.lemmas.Int.{ints}
 use Rattle.std.proofs.lemmas.List.Elements.{All-head, All-tail}
 use Rattle.std.proofs.lemmas.List.Sums.{sum_by-cons}
-use Rattle.sip_ports.specs.declared.port.TalkEvent.{TalkEvent}
 use Rattle.sip_field.specs.Moduli.{m61_modulus}
 use Rattle.sip_vector.specs.Answers.{pairs}
 use Rattle.sip_vector.specs.Streams.{int_sum, of_side, total, vector, weight}
 use Rattle.sip_vector.specs.Tallies.{has_negative, tally}
 use Rattle.sip_vector.specs.Thresholds.{is_wide, share_of}
-use Rattle.sip_vector.specs.Trees.{augroot}
 use Rattle.sip_vector.specs.declared.query.Query.{Query}
 use Rattle.sip_vector.specs.declared.query.Query.TheVariants.{Sub, Range, F2, Inner, Heavy, Share, Above}
 use Rattle.sip_vector.specs.declared.tally.Tally.{Tally}
@@ -22,10 +20,7 @@ use Rattle.sip_vector.specs.declared.update.Update.{Update}
 use Rattle.sip_vector.proofs.Sides.{total-is}
 use Rattle.sip_wire.specs.declared.version.Version.{Version}
 use Rattle.sip_heavy.specs.Counting.{heavy_over}
-use Rattle.sip_heavy.specs.Protocol.{HeavyState, count_of}
-use Rattle.sip_replies.specs.Protocols.{Protocol}
-use Rattle.sip_replies.specs.Replies.{IsAccepted}
-use Rattle.sip_replies.specs.Talks.{asked_unless}
+use Rattle.sip_heavy.specs.Protocol.{count_of}
 use Rattle.sip_verifier.specs.Widths.{is_too_wide}
 use Rattle.sip_verifier.specs.runs.Asking.{question_of}
 use Rattle.sip_questions.specs.Questions.{Answered, asking, first_refusal, refusal_of, to_query}

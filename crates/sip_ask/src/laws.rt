@@ -34,6 +34,8 @@ ghost use Rattle.sip_ask.specs.Runs.{AreRuns, IsRun, NoSeatTwice, Run, events_ca
 ghost use Rattle.sip_ask.specs.Turns.{AreTurns, Turn, places_said, turn_events};
 ghost use Rattle.sip_ask.specs.declared.status.AskStatus.{AskStatus};
 
+use sip_questions::laws::runs_keep_their_promises;
+
 /// A sketch with one more used seat is one that a file can have. Its seats are the same, with their
 /// kinds and their challenges: that one is used, each other one is as it was.
 pub fn a_marked_sketch_is_the_same()
@@ -84,7 +86,9 @@ pub fn asks_keep_their_promises()
         (t : IsInTalk asked start old new blank full status) (before now : Counts)
         → HasRisen before.peer now.peer before.report now.report status
         → AskClauses asked t.s t.places old new blank full before now status }
-{}
+{
+    runs_keep_their_promises();
+}
 
 /// Each legal stream has bytes that are read back as it, to their end: so there is an exchange of
 /// which an ask keeps these promises.
