@@ -26,6 +26,21 @@ loop-index-init g c = record {
   report = search rules;
 }
 
+pub bounds-questions-index : goal.bounds-questions-index
+bounds-questions-index g c =
+    let same = same_count c.args.self.now.sketch c.args.questions.now c.args.places.now (chosen-is c.args.self.now.sketch c.args.questions.now c.args.places.now c.requires.ready.chosen).take in
+    omega (arith, same, c.loop-index-test.true)
+
+pub overflow_cast-index : goal.overflow_cast-index
+overflow_cast-index g c =
+    let same = same_count c.args.self.now.sketch c.args.questions.now c.args.places.now (chosen-is c.args.self.now.sketch c.args.questions.now c.args.places.now c.requires.ready.chosen).take in
+    omega (arith, same, c.loop-index-test.true, c.requires.most)
+
+pub overflow_add-index : goal.overflow_add-index
+overflow_add-index g c =
+    let same = same_count c.args.self.now.sketch c.args.questions.now c.args.places.now (chosen-is c.args.self.now.sketch c.args.questions.now c.args.places.now c.requires.ready.chosen).take in
+    omega (arith, same, c.loop-index-test.true, c.requires.most)
+
 pub take_turn-requires-clause-next : goal.take_turn-requires-clause-next
 take_turn-requires-clause-next g c =
     let s = c.args.self.now.sketch in
