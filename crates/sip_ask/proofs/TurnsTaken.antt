@@ -29,7 +29,7 @@ use Rattle.sip_questions.specs.declared.question.Question.TheVariants as questio
 use Rattle.sip_sketch.specs.Sketches.{SeatValues, SketchValues, size_of}
 use Rattle.sip_ask.specs.Asking.{AsksAll, Came, IsStored, IsStoredInPart, StoresFirst, marked_by, steps_of}
 use Rattle.sip_ask.specs.Causes.{HasRisen, IsStop}
-use Rattle.sip_ask.specs.Choosing.{is_idle}
+use Rattle.sip_ask.specs.Choosing.{choice, is_idle}
 use Rattle.sip_ask.specs.Marking.{mark, used_at}
 use Rattle.sip_ask.specs.Turns.{IsFarewell, block_at}
 use Rattle.sip_ask.specs.declared.status.AskPort.TheVariants as ports
@@ -39,7 +39,7 @@ use Rattle.sip_ask.specs.inside.Ending.{of_run}
 use Rattle.sip_ask.specs.declared.asking.Asking.{Asking}
 use Rattle.sip_ask.specs.inside.Seating.{Takes}
 use Rattle.sip_ask.specs.inside.Steps.{IsIdle, IsMarked, IsNext, IsReportStop, SaysNone, Stores, asks_at, behind_turn}
-use Rattle.sip_ask.proofs.Chosen.{asks-none, asks-some}
+use Rattle.sip_ask.proofs.Chosen.{asks-none, asks-some, chosen-is}
 use Rattle.sip_ask.proofs.Marks.{length-used}
 
 -- ---- a marked sketch
@@ -249,6 +249,10 @@ same_count s [] [] takes = refl
 same_count s [] (y ∷ places) takes = absurd takes
 same_count s (x ∷ asked) [] takes = absurd takes
 same_count s (x ∷ asked) (y ∷ places) takes = let rest = same_count s asked places takes.1 in omega (arith, rest)
+
+-- a place that was chosen is that of a question
+pub within_asked : (s : SketchValues) (asked : List Question) (places : List (Option ℕ)) (i : ℕ) → choice s asked ≡ Ok places → i < length places → i < length asked
+within_asked s asked places i chosen lt = let same = same_count s asked places (chosen-is s asked places chosen).take in omega (arith, same, lt)
 
 -- the next question is asked on its seat, or takes none
 pub next_is : (a : Asking) (s : SketchValues) (asked : List Question) (places : List (Option ℕ)) (i : ℕ) (q : Question) (p : Option ℕ) → AllZip (Takes s) asked places → i < length asked → i < length places

@@ -8,7 +8,7 @@ use Rattle.sip_questions.specs.Questions.{asking}
 use Rattle.sip_questions.specs.Sittings.{remaining_of}
 use Rattle.sip_ask.proofs.Chosen.{chosen-is}
 use Rattle.sip_ask.proofs.Stops.{bye_said, farewell_said, link_rose, link_stops, risen_if}
-use Rattle.sip_ask.proofs.TurnsTaken.{asks_more_at, asks_stop_at, behind_depth, behind_left, behind_version, came_as, next_block, next_count, next_is, same_count, stores_more_at, stores_stop_at}
+use Rattle.sip_ask.proofs.TurnsTaken.{asks_more_at, asks_stop_at, behind_depth, behind_left, behind_version, came_as, next_block, next_count, next_is, same_count, stores_more_at, stores_stop_at, within_asked}
 use Rattle.sip_ask.proofs.asking.Asking.ask_all.Goals as goal
 
 pub loop-index-init : goal.loop-index-init
@@ -26,13 +26,27 @@ loop-index-init g c = record {
   report = search rules;
 }
 
+pub bounds-questions-index : goal.bounds-questions-index
+bounds-questions-index g c = within_asked c.args.self.now.sketch _ _ _ c.requires.ready.chosen c.loop-index-test.true
+
+pub overflow_cast-index : goal.overflow_cast-index
+overflow_cast-index g c =
+    let least = within_asked c.args.self.now.sketch c.args.questions.now c.args.places.now c.loop-index.index c.requires.ready.chosen c.loop-index-test.true in
+    omega (arith, least, c.requires.most)
+
+pub overflow_add-index : goal.overflow_add-index
+overflow_add-index g c =
+    let least = within_asked c.args.self.now.sketch c.args.questions.now c.args.places.now c.loop-index.index c.requires.ready.chosen c.loop-index-test.true in
+    omega (arith, least, c.requires.most)
+
 pub take_turn-requires-clause-next : goal.take_turn-requires-clause-next
 take_turn-requires-clause-next g c =
     let s = c.args.self.now.sketch in
     let i = c.loop-index.invariant in
-    let chosen = chosen-is s c.args.questions.now c.args.places.now c.requires.ready.chosen in
-    let same = same_count s c.args.questions.now c.args.places.now chosen.take in
-    next_is c.loop-index.self s c.args.questions.now c.args.places.now c.loop-index.index _ _ chosen.take (omega (arith, same, c.loop-index-test.true)) c.loop-index-test.true i.left i.count i.blocks
+    let asked = c.args.questions.now in
+    let places = c.args.places.now in
+    let least = within_asked s asked places c.loop-index.index c.requires.ready.chosen c.loop-index-test.true in
+    next_is c.loop-index.self s asked places c.loop-index.index _ _ (chosen-is s asked places c.requires.ready.chosen).take least c.loop-index-test.true i.left i.count i.blocks
 
 pub loop-index-preserved : goal.loop-index-preserved
 loop-index-preserved g c =
@@ -43,10 +57,8 @@ loop-index-preserved g c =
     let e = c.take_turn.ensures in
     let asked = c.args.questions.now in
     let places = c.args.places.now in
-    let chosen = chosen-is s asked places c.requires.ready.chosen in
-    let same = same_count s asked places chosen.take in
     let within : k < length places = c.loop-index-test.true in
-    let least : k < length asked = omega (arith, same, within) in
+    let least = within_asked s asked places k c.requires.ready.chosen within in
     let remaining = c.in_ok-take_turn.ensures.remaining in
     let now = remaining_of c.loop-index.self.asker in
     let next = remaining_of c.take_turn.new.self.asker in
@@ -76,10 +88,8 @@ returns-in_err-take_turn-clause-asks g c = λ stream stands.
     let k = c.loop-index.index in
     let asked = c.args.questions.now in
     let places = c.args.places.now in
-    let chosen = chosen-is s asked places c.requires.ready.chosen in
-    let same = same_count s asked places chosen.take in
     let within : k < length places = c.loop-index-test.true in
-    let least : k < length asked = omega (arith, same, within) in
+    let least = within_asked s asked places k c.requires.ready.chosen within in
     let p = err_from_is_err_and c.from_residual.result c.from_residual.ensures.1 in
     let came = came_as stream _ a.version _ s.depth i.version (i.depth ∙ c.requires.ready.depth) c.loop-index.self.sketch (k + 1) _ _ _ _ _ _ c.take_turn.result (c.take_turn.ensures.came stream (i.stands stream stands)) in
     rw (p.1, p.2)
