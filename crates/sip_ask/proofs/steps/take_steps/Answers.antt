@@ -1,13 +1,47 @@
 -- The talk was not opened, or the questions were asked.
-use Rattle.std.proofs.Common.{◌≡◌, Ok, Err, ap, ◌∙◌}
+use Rattle.std.proofs.Common.{◌≡◌, ◌≤◌, Ok, Err, ap, ◌∙◌, arith}
 use Rattle.std.proofs.lemmas.Result.{err_from_is_err_and}
 use Rattle.sip_ports.proofs.TalkLemmas.{GoesOn-refl}
 use Rattle.sip_wire.specs.declared.version.Version.{Version}
 use Rattle.sip_questions.specs.Questions.{version_for}
 use Rattle.sip_sketch.specs.Sketches.{SketchValues}
-use Rattle.sip_ask.proofs.AskEnds.{opened-asks, talked-asks}
+use Rattle.sip_ask.specs.declared.status.AskStatus.TheVariants as statuses
+use Rattle.sip_ask.proofs.AskEnds.{opened-asks, refusal-risen, refused-asks, talked-asks, unbusy-refusal}
+use Rattle.sip_ask.proofs.Refusing.{choice-refuses}
+use Rattle.sip_ask.proofs.Stops.{risen_if}
 use Rattle.sip_ask.proofs.StepsTaken.{asks_as, opens_as, stops_so, stores_as}
 use Rattle.sip_ask.proofs.steps.take_steps.Goals as goal
+
+pub returns-in_err-places-clause-asks : goal.returns-in_err-places-clause-asks
+returns-in_err-places-clause-asks g c =
+    let loads = c.in_ok-sketch.ensures.loads in
+    let p = err_from_is_err_and c.from_residual-in_err-places.result c.from_residual-in_err-places.ensures.1 in
+    rw (p.1, p.2)
+    (refused-asks c.args.questions.now (g.D.Desk.start c.args.desk.now) (g.D.Sink.talk c.args.desk.now) (g.D.Sink.talk c.load.new.desk) (g.K.Sink.talk c.args.report.now) (g.K.Sink.talk c.args.report.now)
+    c.in_ok-sketch.sketch loads.0 loads.1 c.in_err-places.field-0.0 c.in_err-places.ensures c.load.ensures.talk (GoesOn-refl _))
+
+pub returns-in_err-places-clause-cause : goal.returns-in_err-places-clause-cause
+returns-in_err-places-clause-cause g c =
+    let p = err_from_is_err_and c.from_residual-in_err-places.result c.from_residual-in_err-places.ensures.1 in
+    let status = c.in_err-places.field-0.0 in
+    rw (p.1, p.2) (refusal-risen _ _ _ _ status (choice-refuses c.in_ok-sketch.sketch c.args.questions.now status c.in_err-places.ensures))
+
+pub returns-in_err-places-clause-free : goal.returns-in_err-places-clause-free
+returns-in_err-places-clause-free g c = λ sure busy.
+    let p = err_from_is_err_and c.from_residual-in_err-places.result c.from_residual-in_err-places.ensures.1 in
+    let status = c.in_err-places.field-0.0 in
+    let told = rw (p.1, p.2) at busy in
+    let same : status ≡ statuses.Busy = cc in
+    unbusy-refusal status (choice-refuses c.in_ok-sketch.sketch c.args.questions.now status c.in_err-places.ensures) same
+
+pub returns-clause-cause : goal.returns-clause-cause
+returns-clause-cause g c =
+    let before = g.D.Sink.faults c.args.desk.now in
+    let loaded = c.load.ensures.desk in
+    let opened = c.open.ensures.link in
+    let later : before ≤ g.D.Sink.faults c.open.new.link = omega (arith, loaded.later, opened.later) in
+    risen_if before (g.D.Sink.faults c.open.new.link) (g.D.Sink.faults c.ask_all.new.desk) (g.K.Sink.faults c.args.report.now) (g.K.Sink.faults c.args.report.now) (g.K.Sink.faults c.ask_all.new.report)
+    c.ask_all.result later (omega arith) c.ask_all.ensures.cause
 
 pub returns-in_err-open-clause-asks : goal.returns-in_err-open-clause-asks
 returns-in_err-open-clause-asks g c =
