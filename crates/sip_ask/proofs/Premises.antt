@@ -46,11 +46,11 @@ moment-fits depth moment fit =
 abbrev Above0 : Side → Update → Type 0
 Above0 side u = same_side u.side side ≡ true → pos 0 ≤ℤ u.delta
 
-not-below : (d : ℤ) → int_lt d (pos 0) ≡ false → pos 0 ≤ℤ d
+pub not-below : (d : ℤ) → int_lt d (pos 0) ≡ false → pos 0 ≤ℤ d
 not-below (pos n) none = omega (arith, ints)
 not-below (negsuc n) none = absurd cc
 
-abbrev any_below : List Update → Bool
+abbrev pub any_below : List Update → Bool
 any_below us = list_any (λ (u : Update). int_lt u.delta (pos 0)) us
 
 all-above : (stream : List Update) (side : Side) → any_below (of_side stream side) ≡ false → All (Above0 side) stream
@@ -85,7 +85,7 @@ strict depth stream side none =
     let above = all-above stream side none in
     All-map (λ a. pos 0 ≤ℤ a) (frequency stream side) (range_with_len 0 (2 ^ depth)) (λ k d lt. frequency-above stream side _ above)
 
-told-negative : (stream : List Update) (side : Side) → negative_told (tally stream) side ≡ has_negative stream side
+pub told-negative : (stream : List Update) (side : Side) → negative_told (tally stream) side ≡ has_negative stream side
 told-negative stream First = refl
 told-negative stream Second = refl
 
@@ -101,7 +101,7 @@ query-counts version depth stream (Heavy side at_least) fit unsigned = strict de
 query-counts version depth stream (Share side num den) fit unsigned = strict depth stream side (sym (told-negative stream side) ∙ unsigned)
 query-counts version depth stream (Above side at_least) fit unsigned = absurd (let no : false ≡ true = fit in cc)
 
-high-told : (stream : List Update) (side : Side) (degree : ℕ)
+pub high-told : (stream : List Update) (side : Side) (degree : ℕ)
     → moments.is_high stream (record { side = side; degree = degree }) ≡ is_too_high (weight_told (tally stream) side) degree
 high-told stream First degree = refl
 high-told stream Second degree = refl

@@ -7,7 +7,6 @@ use Rattle.std.proofs.lemmas.List.Elements.{All-cons, All-contains, All-nil}
 use Rattle.sip_ports.specs.Desk.{IsOfLink, may_hold, steps}
 use Rattle.sip_ports.specs.declared.port.TalkEvent.{TalkEvent}
 use Rattle.sip_ports.proofs.DeskLemmas.{may_hold-kept}
-use Rattle.sip_wire.specs.declared.version.Version.{Version}
 use Rattle.sip_sketch.specs.Sketches.{IsSketch, SketchValues}
 use Rattle.sip_ask.specs.Marking.{HasUsed, is_used_at, mark}
 use Rattle.sip_ask.specs.Turns.{AreTurns, Turn, places_said, turn_events}
@@ -49,22 +48,22 @@ none-said [] = refl
 none-said (t ∷ turns) = said-none 0 t turns (omega arith)
 
 -- each file of the turns has this seat used
-pub turns-leave : (version : Version) (place : ℕ) (s : SketchValues) (turns : List Turn) → IsSketch s → is_used_at place s.seats ≡ true → AreTurns version s turns
+pub turns-leave : (place : ℕ) (s : SketchValues) (turns : List Turn) → IsSketch s → is_used_at place s.seats ≡ true → AreTurns s turns
     → (beside : List ℕ) → Leaves (HasUsed place) beside (flat_map turn_events turns)
-turns-leave version place s [] is used are beside = tt
-turns-leave version place s (t ∷ turns) is used are beside =
+turns-leave place s [] is used are beside = tt
+turns-leave place s (t ∷ turns) is used are beside =
     let P = HasUsed place in
     let marked = marked-is s t.place is in
     let stays = used-stays place t.place s used in
     let file : P (Some t.file) = record { sketch = mark t.place s; is = marked; file = ap Some are.2; used = stays } in
-    let own = leaves-append P beside (steps t.file) t.said (leaves-steps P beside t.file file) (λ after. leaves-of_link P after t.said are.3.link) in
+    let own = leaves-append P beside (steps t.file) t.said (leaves-steps P beside t.file file) (λ after. leaves-of_link P after t.said are.3) in
     leaves-append P beside (turn_events t) (flat_map turn_events turns) own
-    (λ after. turns-leave version place (mark t.place s) turns marked stays are.4 after)
+    (λ after. turns-leave place (mark t.place s) turns marked stays are.4 after)
 
-module _ (version : Version) (start : Option (List ℕ)) (place : ℕ) (content : Option (List ℕ)) where
+module _ (start : Option (List ℕ)) (place : ℕ) (content : Option (List ℕ)) where
   -- in the first turn
   said-first : (talk : List TalkEvent) (s : SketchValues) (t : Turn) (turns : List Turn) (behind : List TalkEvent) (count : ℕ)
-      → IsSketch s → AreTurns version s (t ∷ turns) → IsOfLink behind → length (steps t.file) < count → t.place ≡ place
+      → IsSketch s → AreTurns s (t ∷ turns) → IsOfLink behind → length (steps t.file) < count → t.place ≡ place
       → Contains (may_hold start (talk ++ take count (turn_events t ++ (flat_map turn_events turns ++ behind)))) content → HasUsed place content
   said-first talk s t turns behind count is are link lt same held =
       let P = HasUsed place in
@@ -80,8 +79,8 @@ module _ (version : Version) (start : Option (List ℕ)) (place : ℕ) (content 
       let kept : All P (may_hold start (talk ++ steps t.file)) =
       subst (All P) (sym (may_hold-kept start talk t.file)) (All-cons P (Some t.file) [] file (All-nil P)) in
       let leaves = λ (beside : List ℕ). leaves-take P (count - length (steps t.file)) beside rest
-      (leaves-append P beside t.said (flat_map turn_events turns ++ behind) (leaves-of_link P beside t.said are.3.link)
-      (λ after. leaves-append P after (flat_map turn_events turns) behind (turns-leave version place (mark t.place s) turns marked stays are.4 after)
+      (leaves-append P beside t.said (flat_map turn_events turns ++ behind) (leaves-of_link P beside t.said are.3)
+      (λ after. leaves-append P after (flat_map turn_events turns) behind (turns-leave place (mark t.place s) turns marked stays are.4 after)
       (λ last. leaves-of_link P last behind link))) in
       All-contains P (may_hold start ((talk ++ steps t.file) ++ more)) content
       (leaves-may_hold P start (talk ++ steps t.file) more leaves kept)
@@ -89,7 +88,7 @@ module _ (version : Version) (start : Option (List ℕ)) (place : ℕ) (content 
 
   -- in any of them
   pub said-used : (talk : List TalkEvent) (s : SketchValues) (turns : List Turn) (behind : List TalkEvent) (count : ℕ)
-      → IsSketch s → AreTurns version s turns → IsOfLink behind → Contains (places_said count turns) place
+      → IsSketch s → AreTurns s turns → IsOfLink behind → Contains (places_said count turns) place
       → Contains (may_hold start (talk ++ take count (flat_map turn_events turns ++ behind))) content → HasUsed place content
   said-used talk s [] behind count is are link says held = absurd (none-contained place says)
   said-used talk s (t ∷ turns) behind count is are link says held = elim (cases_lt (length (steps t.file)) count) [
@@ -121,7 +120,7 @@ module _ (version : Version) (start : Option (List ℕ)) (place : ℕ) (content 
 
   -- behind what is said before the first
   pub said-used-behind : (talk opened : List TalkEvent) (s : SketchValues) (turns : List Turn) (behind : List TalkEvent) (count : ℕ)
-      → IsSketch s → AreTurns version s turns → IsOfLink behind → Contains (places_said (count - length opened) turns) place
+      → IsSketch s → AreTurns s turns → IsOfLink behind → Contains (places_said (count - length opened) turns) place
       → Contains (may_hold start (talk ++ take count (opened ++ (flat_map turn_events turns ++ behind)))) content → HasUsed place content
   said-used-behind talk opened s turns behind count is are link says held = elim (cases_lt count (length opened)) [
     | inl short ↦

@@ -7,7 +7,6 @@ use Rattle.std.proofs.lemmas.Bool.{cases_lt}
 use Rattle.std.proofs.lemmas.List.Elements.{All-contains, All-head, All-tail, Contains-get_or}
 use Rattle.sip_ports.specs.Desk.{may_hold, steps}
 use Rattle.sip_ports.specs.declared.port.TalkEvent.{TalkEvent}
-use Rattle.sip_wire.specs.declared.version.Version.{Version}
 use Rattle.sip_sketch.specs.Sketches.{IsSketch, SketchValues, spelled_file}
 use Rattle.sip_ask.specs.Marking.{HasUsed, is_used_at, mark}
 use Rattle.sip_ask.specs.Runs.{AreApart, AreDistinct, AreRuns, Deed, Follows, IsDeed, IsRun, NoSeatTwice, Run, asks, events_came, events_of, said_by, said_in, stores}
@@ -45,7 +44,7 @@ deed-leaves place loaded (asks opened turns behind) has is beside =
     let P = HasUsed place in
     let used = loaded-used place loaded is.0 is.2 is.3 has in
     leaves-append P beside opened (flat_map turn_events turns ++ behind) (leaves-of_link P beside opened is.4.link)
-    (λ after. leaves-append P after (flat_map turn_events turns) behind (turns-leave is.1 place is.0 turns is.2 used is.5 after)
+    (λ after. leaves-append P after (flat_map turn_events turns) behind (turns-leave place is.0 turns is.2 used is.5 after)
     (λ last. leaves-of_link P last behind is.6.link))
 
 -- what is used stays used
@@ -57,10 +56,10 @@ run-keeps place start talk r run all =
     (λ beside. leaves-take (HasUsed place) r.count beside (events_of r.deed) (deed-leaves place r.loaded r.deed has run.1 beside)) all
 
 -- no turn takes a seat that is used
-turns-apart : (version : Version) (place : ℕ) (s : SketchValues) (turns : List Turn) (count : ℕ) → is_used_at place s.seats ≡ true → AreTurns version s turns
+turns-apart : (place : ℕ) (s : SketchValues) (turns : List Turn) (count : ℕ) → is_used_at place s.seats ≡ true → AreTurns s turns
     → Contains (places_said count turns) place → ⊥
-turns-apart version place s [] count used are says = none-contained place says
-turns-apart version place s (t ∷ turns) count used are says = elim (cases_lt (length (steps t.file)) count) [
+turns-apart place s [] count used are says = none-contained place says
+turns-apart place s (t ∷ turns) count used are says = elim (cases_lt (length (steps t.file)) count) [
   | inr few ↦ none-contained place (subst (λ (l : List ℕ). Contains l place) (said-none count t turns few) says)
   | inl lt ↦
       let some = subst (λ (l : List ℕ). Contains l place) (said-some count t turns lt) says in
@@ -69,18 +68,18 @@ turns-apart version place s (t ∷ turns) count used are says = elim (cases_lt (
             let no : true ≡ false = sym used ∙ ap (λ (k : ℕ). is_used_at k s.seats) (sym same) ∙ are.1 in
             absurd cc
         | inr later ↦
-            turns-apart version place (mark t.place s) turns (count - length (turn_events t)) (used-stays place t.place s used) are.4 later
+            turns-apart place (mark t.place s) turns (count - length (turn_events t)) (used-stays place t.place s used) are.4 later
       ]
 ]
 
-turns-distinct : (version : Version) (s : SketchValues) (turns : List Turn) (count : ℕ) → AreTurns version s turns → AreDistinct (places_said count turns)
-turns-distinct version s [] count are = tt
-turns-distinct version s (t ∷ turns) count are = elim (cases_lt (length (steps t.file)) count) [
+turns-distinct : (s : SketchValues) (turns : List Turn) (count : ℕ) → AreTurns s turns → AreDistinct (places_said count turns)
+turns-distinct s [] count are = tt
+turns-distinct s (t ∷ turns) count are = elim (cases_lt (length (steps t.file)) count) [
   | inr few ↦ subst AreDistinct (sym (said-none count t turns few)) tt
   | inl lt ↦
       let own : AreDistinct (t.place ∷ places_said (count - length (turn_events t)) turns) = (
-        λ says. turns-apart version t.place (mark t.place s) turns (count - length (turn_events t)) (used-here t.place s.seats are.0) are.4 says,
-        turns-distinct version (mark t.place s) turns (count - length (turn_events t)) are.4,
+        λ says. turns-apart t.place (mark t.place s) turns (count - length (turn_events t)) (used-here t.place s.seats are.0) are.4 says,
+        turns-distinct (mark t.place s) turns (count - length (turn_events t)) are.4,
       ) in
       subst AreDistinct (sym (said-some count t turns lt)) own
 ]
@@ -89,11 +88,11 @@ deed-apart : (place : ℕ) (loaded : Option (List ℕ)) (deed : Deed) (count : �
     → Contains (said_by deed count) place → ⊥
 deed-apart place loaded (stores files) count has is says = none-contained place says
 deed-apart place loaded (asks opened turns behind) count has is says =
-    turns-apart is.1 place is.0 turns (count - length opened) (loaded-used place loaded is.0 is.2 is.3 has) is.5 says
+    turns-apart place is.0 turns (count - length opened) (loaded-used place loaded is.0 is.2 is.3 has) is.5 says
 
 deed-distinct : (loaded : Option (List ℕ)) (deed : Deed) (count : ℕ) → IsDeed loaded deed → AreDistinct (said_by deed count)
 deed-distinct loaded (stores files) count is = tt
-deed-distinct loaded (asks opened turns behind) count is = turns-distinct is.1 is.0 turns (count - length opened) is.5
+deed-distinct loaded (asks opened turns behind) count is = turns-distinct is.0 turns (count - length opened) is.5
 
 -- where a run said something, each content has that seat used then
 deed-used : (place : ℕ) (start : Option (List ℕ)) (talk : List TalkEvent) (loaded : Option (List ℕ)) (deed : Deed) (count : ℕ) → IsDeed loaded deed
@@ -101,7 +100,7 @@ deed-used : (place : ℕ) (start : Option (List ℕ)) (talk : List TalkEvent) (l
     → Contains (may_hold start (talk ++ take count (events_of deed))) content → HasUsed place content
 deed-used place start talk loaded (stores files) count is says content held = absurd (none-contained place says)
 deed-used place start talk loaded (asks opened turns behind) count is says content held =
-    said-used-behind is.1 start place content talk opened is.0 turns behind count is.2 is.5 is.6.link says held
+    said-used-behind start place content talk opened is.0 turns behind count is.2 is.5 is.6.link says held
 
 run-used : (place : ℕ) (start : Option (List ℕ)) (talk : List TalkEvent) (r : Run) → IsRun start talk r → Contains (said_in r) place
     → All (HasUsed place) (may_hold start (talk ++ events_came r))

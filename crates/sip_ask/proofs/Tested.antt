@@ -19,15 +19,15 @@ use Rattle.sip_ask.specs.Counting.{IsCounted}
 
 -- ---- steps that passed
 
-bound : {A B E : Type 0} (r : Result A E) (f : A → Result B E) (y : B) → (r >>= f) ≡ Ok y → (x : A) × (r ≡ Ok x) × (f x ≡ Ok y)
+pub bound : {A B E : Type 0} (r : Result A E) (f : A → Result B E) (y : B) → (r >>= f) ≡ Ok y → (x : A) × (r ≡ Ok x) × (f x ≡ Ok y)
 bound (Ok x) f y e = (x, refl, e)
 bound (Err why) f y e = absurd cc
 
-needed : {E : Type 0} (test : Bool) (why : E) (y : Unit {0}) → needs test why ≡ Ok y → test ≡ true
+pub needed : {E : Type 0} (test : Bool) (why : E) (y : Unit {0}) → needs test why ≡ Ok y → test ≡ true
 needed true why y e = refl
 needed false why y e = absurd cc
 
-passed : (test : ℕ → Question → Result (Unit {0}) AskStatus) (P : Question → Type 0)
+pub passed : (test : ℕ → Question → Result (Unit {0}) AskStatus) (P : Question → Type 0)
     → ((number : ℕ) (q : Question) (y : Unit {0}) → test number q ≡ Ok y → P q)
     → (number : ℕ) (asked : List Question) (y : Unit {0}) → all_pass test number asked ≡ Ok y → All P asked
 passed test P one number [] y e = All-nil P
@@ -51,7 +51,7 @@ abbrev seat-or : SketchValues → List (Option ℕ) → Question → Result (Opt
 seat-or s taken q = cond (is_idle s.tally q) (Ok None)
     (on (free_from (kind_for q) taken 0 s.seats) (Err (statuses.NoSeat (length taken + 1))) (λ place. Ok (Some place)))
 
-seats-unsigned : (s : SketchValues) (taken : List (Option ℕ)) (asked : List Question) (places : List (Option ℕ))
+pub seats-unsigned : (s : SketchValues) (taken : List (Option ℕ)) (asked : List Question) (places : List (Option ℕ))
     → seats_for s taken asked ≡ Ok places → All (λ q. is_signed s.tally q ≡ false) asked
 seats-unsigned s taken [] places e = All-nil (λ q. is_signed s.tally q ≡ false)
 seats-unsigned s taken (q ∷ asked) places e =
@@ -62,7 +62,12 @@ seats-unsigned s taken (q ∷ asked) places e =
 
 -- ---- all tests
 
-small-low : (t : Tally) (number : ℕ) (q : Question) (y : Unit {0}) → small_at t number q ≡ Ok y → is_high_of t q ≡ false
+pub small-narrow : (t : Tally) (number : ℕ) (q : Question) (y : Unit {0}) → small_at t number q ≡ Ok y → is_wide_of t q ≡ false
+small-narrow t number q y e =
+    let b = bound (needs (not (is_wide_of t q)) (statuses.TooWide number)) (λ _. needs (not (is_high_of t q)) (statuses.TooHigh number)) y e in
+    not-true (is_wide_of t q) (needed (not (is_wide_of t q)) (statuses.TooWide number) b.0 b.1)
+
+pub small-low : (t : Tally) (number : ℕ) (q : Question) (y : Unit {0}) → small_at t number q ≡ Ok y → is_high_of t q ≡ false
 small-low t number q y e =
     let b = bound (needs (not (is_wide_of t q)) (statuses.TooWide number)) (λ _. needs (not (is_high_of t q)) (statuses.TooHigh number)) y e in
     not-true (is_high_of t q) (needed (not (is_high_of t q)) (statuses.TooHigh number) y b.2)

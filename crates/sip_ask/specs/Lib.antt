@@ -1,6 +1,10 @@
+pub mod Asking
+pub mod Causes
 pub mod Choosing
 pub mod Counting
 pub mod Examples
 pub mod Marking
+pub mod Promises
 pub mod Runs
 pub mod Turns
+pub mod inside

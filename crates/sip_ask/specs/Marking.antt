@@ -1,39 +1,9 @@
--- A sketch with seats that questions have used.
-use Rattle.std.specs.Prelude.{◌≡◌, ℕ, zero, suc, Bool, true, false, List, [], ◌∷◌, Some}
+-- Sketches whose seats are used, and contents of the file in which one is.
+use Rattle.std.specs.Prelude.{◌≡◌, ℕ, true, List, Some}
 use Rattle.std.specs.List.{AllZip}
 use Rattle.std.specs.declared.option.Option.{Option}
-use Rattle.sip_sketch.specs.Sketches.{IsSketch, SeatValues, SketchValues, spelled_file}
-
--- the seat, used
-abbrev pub used : SeatValues → SeatValues
-used seat = record {
-  kind = seat.kind;
-  is_used = true;
-  block = seat.block;
-  first = seat.first;
-  second = seat.second;
-}
-
--- these seats, of which the one at this place is used
-abbrev pub used_at : ℕ → List SeatValues → List SeatValues
-used_at place [] = []
-used_at zero (seat ∷ seats) = used seat ∷ seats
-used_at (suc place) (seat ∷ seats) = seat ∷ used_at place seats
-
--- the sketch whose seat at this place is used
-abbrev pub mark : ℕ → SketchValues → SketchValues
-mark place s = record {
-  depth = s.depth;
-  parts = s.parts;
-  tally = s.tally;
-  seats = used_at place s.seats;
-}
-
--- whether a question has used the seat at this place
-abbrev pub is_used_at : ℕ → List SeatValues → Bool
-is_used_at place [] = false
-is_used_at zero (seat ∷ seats) = seat.is_used
-is_used_at (suc place) (seat ∷ seats) = is_used_at place seats
+use Rattle.sip_sketch.specs.Sketches.{IsSketch, SketchValues, spelled_file}
+pub use Rattle.sip_sketch.specs.Marking.{is_used_at, mark, used, used_at}
 
 -- The seats of the one are those of the other, each with its kind and its challenges, and none that
 -- was used is unused.

@@ -41,7 +41,7 @@ Follows loaded file = (was : SketchValues) → IsSketch was → loaded ≡ Some 
 abbrev pub IsDeed : Option (List ℕ) → Deed → Type 0
 IsDeed loaded (stores files) = All (Follows loaded) files
 IsDeed loaded (asks opened turns behind) = (s : SketchValues) × (version : Version) × IsSketch s
-    × (loaded ≡ Some (spelled_file s)) × IsOpening version s opened × AreTurns version s turns
+    × (loaded ≡ Some (spelled_file s)) × IsOpening version s opened × AreTurns s turns
     × IsFarewell version behind
 
 -- a run behind this talk, over a file that started so: it has loaded a content that the file may

@@ -8,9 +8,7 @@ use Rattle.std.specs.Prelude.{length, flat_map, if◌then◌else◌}
 use Rattle.sip_ports.specs.Desk.{IsOfLink, steps}
 use Rattle.sip_ports.specs.Ports.{ins, outs, written}
 use Rattle.sip_ports.specs.declared.port.TalkEvent.{TalkEvent}
-use Rattle.sip_ports.specs.declared.port.TalkEvent.TheVariants.{Ended}
 use Rattle.sip_vector.specs.declared.tally.Tally.{Tally}
-use Rattle.sip_vector.specs.declared.update.Update.{Update}
 use Rattle.sip_wire.specs.Spelling.{spelling}
 use Rattle.sip_wire.specs.Versions.{number_of}
 use Rattle.sip_wire.specs.declared.message.Held.{Held}
@@ -19,7 +17,7 @@ use Rattle.sip_wire.specs.declared.version.Version.{Version}
 use Rattle.sip_replies.specs.Talks.{IsPrefix}
 use Rattle.sip_verifier.specs.Talks.{bye_sent}
 use Rattle.sip_verifier.specs.runs.Manners.{Manner}
-use Rattle.sip_questions.specs.Questions.{Answered, Posed, asking}
+use Rattle.sip_questions.specs.Questions.{Answered, Posed}
 use Rattle.sip_questions.specs.declared.question.Question.{Question}
 use Rattle.sip_sketch.specs.Sketches.{SeatValues, SketchValues, spelled_file}
 use Rattle.sip_ask.specs.Marking.{is_used_at, mark}
@@ -42,24 +40,12 @@ block_at place [] = []
 block_at zero (seat ∷ seats) = seat.block
 block_at (suc place) (seat ∷ seats) = block_at place seats
 
--- what is said is that of one question at these challenges, or a front of it, at the end of which
--- the link may have ended; nothing is done to the file
-pub record IsOfQuestion (version : Version) (depth : ℕ) (block : List ℕ) (said : List TalkEvent)
-    : Type 0 where
-  pub link : IsOfLink said
-  pub stream : List Update
-  pub posed : Posed
-  pub at : posed.block ≡ block
-  pub order : IsPrefix said ((asking version depth stream).said_for posed ++ Ended ∷ [])
-
 -- The turns of a sketch: each takes a seat that no question has used, stores the sketch with that
--- seat used and those of the turns before it, and then one question is asked on that seat.
-abbrev pub AreTurns : Version → SketchValues → List Turn → Type 0
-AreTurns version s [] = ⊤
-AreTurns version s (t ∷ turns) = (t.place < length s.seats)
-    × (is_used_at t.place s.seats ≡ false) × (t.file ≡ spelled_file (mark t.place s))
-    × IsOfQuestion version s.depth (block_at t.place s.seats) t.said
-    × AreTurns version (mark t.place s) turns
+-- seat used and those of the turns before it, and then uses the link alone.
+abbrev pub AreTurns : SketchValues → List Turn → Type 0
+AreTurns s [] = ⊤
+AreTurns s (t ∷ turns) = (t.place < length s.seats) × (is_used_at t.place s.seats ≡ false)
+    × (t.file ≡ spelled_file (mark t.place s)) × IsOfLink t.said × AreTurns (mark t.place s) turns
 
 -- ---- around the turns
 

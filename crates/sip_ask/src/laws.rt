@@ -3,24 +3,38 @@
 
 ghost use Rattle.std.specs.Prelude.{◌≡◌, ◌≢◌, ℕ, ◌*◌, ◌-◌, ◌^◌, ◌<◌, ◌≤◌, true, List, [], ◌++◌};
 ghost use Rattle.std.specs.Prelude.{length, map, take, flat_map, slice_index_or, All, Contains, Ok};
+ghost use Rattle.std.specs.Prelude.{None, Some};
 ghost use Rattle.std.specs.declared.option.Option.{Option};
 ghost use Rattle.sip_field.specs.Moduli.{m61_modulus};
 ghost use Rattle.sip_counts.specs.Late.{fooled_late, plan_bounds, some_fooled};
 ghost use Rattle.sip_ports.specs.Desk.{IsOfLink, may_hold};
+ghost use Rattle.sip_ports.specs.Ports.{GoesOn};
 ghost use Rattle.sip_ports.specs.declared.port.TalkEvent.{TalkEvent};
+ghost use Rattle.sip_vector.specs.Limits.{most_depth};
+ghost use Rattle.sip_vector.specs.Streams.{IsLegal};
 ghost use Rattle.sip_vector.specs.declared.update.Update.{Update};
+ghost use Rattle.sip_stream.specs.Records.{records};
+ghost use Rattle.sip_stream.specs.Spellings.{all_spelled};
+ghost use Rattle.sip_stream.specs.declared.form.Form.TheVariants.{Wide};
 ghost use Rattle.sip_wire.specs.declared.version.Version.{Version};
+ghost use Rattle.sip_verifier.specs.Snapshots.{Counts};
 ghost use Rattle.sip_questions.specs.Honest.{answer};
 ghost use Rattle.sip_questions.specs.Questions.{AcceptsOf, Answered, Posed};
 ghost use Rattle.sip_questions.specs.declared.question.Question.{Question};
 ghost use Rattle.sip_sketch.specs.Sketches.{IsSketch, SeatValues, SketchValues};
 ghost use Rattle.sip_sketch.specs.Standing.{Stands};
+ghost use Rattle.sip_ask.specs.Asking.{Asks, IsInTalk};
+ghost use Rattle.sip_ask.specs.Causes.{HasRisen};
 ghost use Rattle.sip_ask.specs.Choosing.{choice};
 ghost use Rattle.sip_ask.specs.Counting.{IsCounted, IsSound, LedTo, SeatPlan, challenges_in};
 ghost use Rattle.sip_ask.specs.Counting.{plan_of};
 ghost use Rattle.sip_ask.specs.Marking.{HasUsed, KeepsUsed, is_used_at, mark};
-ghost use Rattle.sip_ask.specs.Runs.{AreRuns, NoSeatTwice, Run};
+ghost use Rattle.sip_ask.specs.Promises.{AskClauses};
+ghost use Rattle.sip_ask.specs.Runs.{AreRuns, IsRun, NoSeatTwice, Run, events_came};
 ghost use Rattle.sip_ask.specs.Turns.{AreTurns, Turn, places_said, turn_events};
+ghost use Rattle.sip_ask.specs.declared.status.AskStatus.{AskStatus};
+
+use sip_questions::laws::runs_keep_their_promises;
 
 /// A sketch with one more used seat is one that a file can have. Its seats are the same, with their
 /// kinds and their challenges: that one is used, each other one is as it was.
@@ -37,10 +51,10 @@ pub fn a_marked_sketch_is_the_same()
 /// each content that the file may have then has used the seats of all turns in which something was
 /// said.
 pub fn said_only_where_used()
-    ensures { (version : Version) (start : Option (List ℕ))
-        (talk opened behind : List TalkEvent) (s : SketchValues) (turns : List Turn)
-        (count place : ℕ) (content : Option (List ℕ)) → IsSketch s
-        → IsOfLink opened → AreTurns version s turns → IsOfLink behind
+    ensures { (start : Option (List ℕ)) (talk opened behind : List TalkEvent)
+        (s : SketchValues) (turns : List Turn) (count place : ℕ)
+        (content : Option (List ℕ)) → IsSketch s
+        → IsOfLink opened → AreTurns s turns → IsOfLink behind
         → Contains (places_said (count - length opened) turns) place
         → Contains (may_hold start
         (talk ++ take count (opened ++ (flat_map turn_events turns ++ behind)))) content
@@ -52,6 +66,36 @@ pub fn said_only_where_used()
 pub fn no_seat_serves_two_questions()
     ensures { (start : Option (List ℕ)) (talk : List TalkEvent) (runs : List Run)
         → AreRuns start talk runs → NoSeatTwice runs }
+{}
+
+/// What a call did that asks questions ([`ask`](crate::ask)) is a run over the file of its sketch,
+/// behind any talk that is told: where it sent anything, it had loaded a sketch, and all that it
+/// did to the file and said of questions are its turns. So the laws of runs are of asks.
+pub fn an_ask_is_a_run()
+    ensures { (asked : List Question) (start : Option (List ℕ)) (talk : List TalkEvent)
+        (new blank full : Option (List TalkEvent)) (status : AskStatus)
+        → Asks asked start (Some talk) new blank full status
+        → (r : Run) × IsRun start talk r × GoesOn (Some talk) new (events_came r) }
+{}
+
+/// An ask keeps the five promises of a run of questions, over each stream that the loaded sketch
+/// stands for, as if that had passed through the talk.
+pub fn asks_keep_their_promises()
+    ensures { (asked : List Question) (start : Option (List ℕ))
+        (old new blank full : Option (List TalkEvent)) (status : AskStatus)
+        (t : IsInTalk asked start old new blank full status) (before now : Counts)
+        → HasRisen before.peer now.peer before.report now.report status
+        → AskClauses asked t.s t.places old new blank full before now status }
+{
+    runs_keep_their_promises();
+}
+
+/// Each legal stream has bytes that are read back as it, to their end: so there is an exchange of
+/// which an ask keeps these promises.
+pub fn each_legal_stream_has_bytes()
+    ensures { (depth : ℕ) (stream : List Update) → depth ≤ most_depth → IsLegal depth stream
+        → records depth Wide (all_spelled Wide stream)
+        ≡ record { legal = stream; fault = None } }
 {}
 
 /// However helpers reply to the questions of all seats of a sketch, in whatever order these are

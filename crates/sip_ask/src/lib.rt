@@ -5,15 +5,23 @@
 //! answer to a second one on them accepted. So the file with the seat used is stored before a byte
 //! of the question is sent.
 //!
-//! So far the crate says what an ask is, and what holds of it; no call asks yet. [`choose`] says which
-//! seats questions would take.
+//! [`ask`] does all of that for some questions, over a desk: a link to where the stream is kept,
+//! and the file. [`choose`] says which seats they would take.
 //!
 //! # What is proved
 //!
+//! - [`ask`] ends exactly as `Asking` says: what was loaded, said, stored and written, by its
+//!   status. For each question in order the file with its seat used is stored, and only then is
+//!   anything said of it.
 //! - Whenever a crash comes, each content that the file may have then has used the seats of all
 //!   questions of which a byte was sent ([`laws::said_only_where_used`]).
 //! - Over any runs over one file, each of which may be cut off at any event, no seat serves two
-//!   questions ([`laws::no_seat_serves_two_questions`]).
+//!   questions ([`laws::no_seat_serves_two_questions`]). A call of [`ask`] is such a run
+//!   ([`laws::an_ask_is_a_run`]).
+//! - A call keeps the promises of a run of questions over each stream that the loaded sketch stands
+//!   for ([`laws::asks_keep_their_promises`]); each has bytes, so that these are no empty promises
+//!   ([`laws::each_legal_stream_has_bytes`]). Of a sketch that stands for none, as one that was
+//!   made by hand, only the order of what is stored and sent is told.
 //! - Whatever order the seats are used in, and however questions are chosen by what was revealed of
 //!   others, a helper has a wrong answer accepted at few vectors of challenges
 //!   ([`laws::few_vectors_mislead_a_sketch`]), and where it has one the sketch's own challenges are
@@ -27,6 +35,9 @@
 //! | `Choosing` | which seat each question takes, and why nothing is asked |
 //! | `Marking` | a sketch with used seats, and which contents of the file have a seat used |
 //! | `Turns` | in which order the file and the link are used |
+//! | `Asking` | what an ask did, by its status |
+//! | `Causes` | with which statuses an ask stops, and which count of faults rose then |
+//! | `Promises` | of which exchange of a run it keeps the promises |
 //! | `Runs` | runs over one file, each cut off somewhere, and that no seat serves two questions |
 //! | `Counting` | what may become of each seat, and which wrong answers are counted |
 //! | `Examples` | what the examples work out |
@@ -34,10 +45,15 @@
 //! [`examples`] works out which seats questions take, and the file of a sketch with a used seat.
 #![tactic(auto)]
 
+mod asking;
 mod choosing;
+mod ending;
 pub mod examples;
 pub mod laws;
+mod opening;
 mod status;
+mod steps;
 
 pub use choosing::{Places, choose};
 pub use status::{AskPort, AskStatus};
+pub use steps::ask;

@@ -2,5 +2,5 @@ use Rattle.sip_ask.proofs.Saying.{said-used-behind}
 use Rattle.sip_ask.proofs.laws.said_only_where_used.Goals as goal
 
 pub returns : goal.returns
-returns c = λ version start talk opened behind s turns count place content is link are last says held.
-    said-used-behind version start place content talk opened s turns behind count is are last says held
+returns c = λ start talk opened behind s turns count place content is link are last says held.
+    said-used-behind start place content talk opened s turns behind count is are last says held

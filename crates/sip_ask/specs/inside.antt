@@ -1,0 +1,4 @@
+pub mod Ending
+pub mod Opening
+pub mod Seating
+pub mod Steps

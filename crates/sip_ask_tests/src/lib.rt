@@ -1,0 +1,7 @@
+//! Asks of a sketch over a desk in memory: what is said, stored and written, and where each seat is
+//! used by whatever a crash leaves. Nothing but tests stands here, so that the layer is proved
+//! once.
+#![tactic(auto)]
+
+#[cfg(test)]
+mod ask_tests;
