@@ -105,10 +105,11 @@ sending_stops first firsts second seconds status stops = (
 )
 
 -- what stopped a gathering is one of its statuses
-pub stops_listed : (before now : Counts) (gathered : Result Seating Status)
-    → Stops stops_gathering before now gathered → IfErr gathered (λ s. IsTrue (stops_gathering s))
-stops_listed before now (Ok seats) stops = tt
-stops_listed before now (Err status) stops = stops.0
+pub stops_listed : (first firsts second seconds : ℕ) (gathered : Result Seating Status)
+    → Stops stops_gathering (counts first second 0 0 0) (counts firsts seconds 0 0 0) gathered
+    → IfErr gathered (λ s. IsTrue (stops_gathering s))
+stops_listed first firsts second seconds (Ok seats) stops = tt
+stops_listed first firsts second seconds (Err status) stops = stops.0
 
 -- ---- no session
 

@@ -14,7 +14,9 @@ use Rattle.sip_ports.specs.declared.port.TalkEvent.{TalkEvent}
 use Rattle.sip_ports.specs.Ports.{SendsWhole, outs}
 use Rattle.sip_stream.specs.declared.fault.StreamFault.{StreamFault}
 use Rattle.sip_stream.specs.declared.fault.StreamFault.TheVariants as faults
+use Rattle.sip_stream.specs.declared.form.Form.{Form}
 use Rattle.sip_stream.specs.Reading.{HasRead, IsAfter, Reading, Reads}
+use Rattle.sip_vector.specs.declared.query.Query.{Query}
 use Rattle.sip_vector.specs.declared.update.Update.{Update}
 use Rattle.sip_wire.specs.declared.version.Version.{Version}
 use Rattle.sip_wire.specs.declared.message.Message.TheVariants as messages
@@ -56,8 +58,18 @@ module _ (waiting : List Update) (u : Update) where
       ap (λ b. if b then spelling version (messages.Updates (record { items = waiting ++ u ∷ [] }))
       else []) (fills_then is)
 
-  pub taken_full : length (waiting ++ u ∷ []) ≡ 512 → taken_with waiting u ≡ waiting ++ u ∷ []
+  taken_full : length (waiting ++ u ∷ []) ≡ 512 → taken_with waiting u ≡ waiting ++ u ∷ []
   taken_full is = ap (λ b. if b then waiting ++ u ∷ [] else []) (fills_then is)
+
+  -- the seats took a block that is the whole frame
+  pub seats_took : (pushed block : List Update) (depth : ℕ) (queries : List Query)
+      (blocks_of : List (List ℕ)) (stream : List Update) (seats : Seating)
+      → pushed ≡ waiting ++ u ∷ [] → length pushed ≡ 512 → block ≡ waiting ++ u ∷ []
+      → AreSeats depth queries blocks_of (stream ++ block) seats
+      → AreSeats depth queries blocks_of (stream ++ taken_with waiting u) seats
+  seats_took pushed block depth queries blocks_of stream seats is full all are =
+      subst (λ l. AreSeats depth queries blocks_of (stream ++ l) seats)
+      (all ∙ sym (taken_full (sym (ap length is) ∙ full))) are
 
   -- where it does not, nothing goes out
   pub due_nothing : (version : Version) → length (waiting ++ u ∷ []) ≢ 512
@@ -140,6 +152,23 @@ pub all_nothing : (talks : AllTalks) → SaysAll talks talks [] (Ok tt)
 all_nothing talks = λ k less. says_nothing (get_or talks k [])
 
 -- ---- the stream, on one link
+
+-- what a call read behind a stream that is under way, by the depth and the form of the task
+pub reads_on : (task : Task) (bytes : List ℕ) (at_blocks : List (List ℕ))
+    (left left' : Option (List ℕ)) (start now : Option (List TalkEvent)) (reader : Reading)
+    (seats : Seating) (waiting : List Update)
+    (so : IsUnderway task bytes at_blocks left start now reader seats waiting)
+    (r s : Result (Option Update) StreamFault)
+    → reader.depth ≡ task.depth → reader.form ≡ task.form → r ≡ s
+    → ((before : List Update) (rest : List ℕ) → IsAfter reader before → left ≡ Some rest
+    → Reads reader.depth reader.form before rest left' r)
+    → Reads task.depth task.form so.stream so.rest left' s
+reads_on task bytes at_blocks left left' start now reader seats waiting so r s depth form is reads =
+    subst (λ (d : ℕ). Reads d task.form so.stream so.rest left' s) depth
+    (subst (λ (f : Form). Reads reader.depth f so.stream so.rest left' s) form
+    (subst (λ (x : Result (Option Update) StreamFault).
+    Reads reader.depth reader.form so.stream so.rest left' x) is
+    (reads so.stream so.rest so.after so.to_come)))
 
 module _ (task : Task) (bytes : List ℕ) (start : List TalkEvent) (first : Seating)
     (at_blocks : List (List ℕ))

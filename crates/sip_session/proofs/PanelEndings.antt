@@ -39,10 +39,10 @@ use Rattle.sip_verifier.specs.Widths.{first_wide_seat}
 use Rattle.sip_verifier.proofs.RunTalks.{front_before}
 use Rattle.sip_verifier.proofs.WideSeats.{first_is}
 use Rattle.sip_session.specs.inside.Beginning.{IsHeard, query_of_seat, task_of_seats}
-use Rattle.sip_session.specs.inside.Hearing.{AllTalks, Each, IsPassedInPart, Says}
-use Rattle.sip_session.specs.inside.Trying.{Halts, IsSeated, Trail, TrailsTo, turn_at}
+use Rattle.sip_session.specs.inside.Hearing.{AllTalks, Each, IsPassedInPart, SaysBehind}
+use Rattle.sip_session.specs.inside.Trying.{Halts, IsSeated, Trail, TrailsInLine, TrailsTo, turn_at}
 use Rattle.sip_session.specs.PanelClause.{PanelClause}
-use Rattle.sip_session.specs.PanelEnds.{Ends, MayHear, NoneAsked, OfEach, Went, all_sent, due, said_to}
+use Rattle.sip_session.specs.PanelEnds.{CutInLine, Ends, MayHear, NoneAsked, OfEach, Went, all_sent, due, said_to}
 use Rattle.sip_session.specs.PanelExchanges.{PanelExchange, without_links}
 use Rattle.sip_session.specs.Panels.{Attempt, AreAttempts, IsJudged, IsOfTurn, Turn, are_answered, first_turn, inquiry_of_panel, is_left, seat_at, seat_queries, turn_behind}
 use Rattle.sip_session.proofs.Asked.{ask_of}
@@ -461,6 +461,20 @@ module _ (helpers : ℕ) (task : Task) (x : PanelExchange) (some : 0 < helpers)
           (are_attempts new blank full attempts rest written t) ends cause
           (λ any. can_be_judged)
 
+      -- a front of the last line was written
+      line_cut : (h : TrailsInLine (version_of task) task.depth U helpers
+          (length task.queries.items) asks mid new blank full)
+          → CutInLine helpers task x (h.before ++ h.last ∷ [])
+      line_cut h = record {
+        before = h.before;
+        last = h.last;
+        are = refl;
+        went = to_went _ _ _ h.trail;
+        part = h.part;
+        front = h.front;
+        report = wrote _ h.trail.report;
+      }
+
       pub halted : (status : Status)
           → Halts (version_of task) task.depth U helpers (length task.queries.items) asks mid new
           blank full status → FaultClause before now status → Promise status
@@ -479,29 +493,10 @@ module _ (helpers : ℕ) (task : Task) (x : PanelExchange) (some : 0 < helpers)
           can_be_judged
       halted (statuses.WriteFault ports.Report) h fault =
           promise (h.before ++ h.last ∷ []) (λ helper more. more ≡ []) _
-          (statuses.WriteFault ports.Report) h.trail
-          (record {
-            before = h.before;
-            last = h.last;
-            are = refl;
-            went = to_went _ _ _ h.trail;
-            part = h.part;
-            front = h.front;
-            report = wrote _ h.trail.report;
-          })
-          (can_be_judged, fault)
+          (statuses.WriteFault ports.Report) h.trail (line_cut h) (can_be_judged, fault)
       halted statuses.OutOfMemory (inl h) fault =
           promise (h.before ++ h.last ∷ []) (λ helper more. more ≡ []) _ statuses.OutOfMemory
-          h.trail
-          (inr (inr (inl (record {
-            before = h.before;
-            last = h.last;
-            are = refl;
-            went = to_went _ _ _ h.trail;
-            part = h.part;
-            front = h.front;
-            report = wrote _ h.trail.report;
-          })))) tt
+          h.trail (inr (inr (inl (line_cut h)))) tt
       halted statuses.OutOfMemory (inr (inl h)) fault =
           promise h.attempts _ _ statuses.OutOfMemory h.trail
           (inr (inl (record {
@@ -551,55 +546,67 @@ module _ (helpers : ℕ) (task : Task) (x : PanelExchange) (some : 0 < helpers)
       left_not k less =
           ap (λ (t : Turn). is_left t (suc k)) to.behind ∙ lt-leb (suc gone) (suc k) (omega arith)
 
-      pub all_answered : (u : Unit {0})
-          → Each (λ place o n. (place < gone → n ≡ o)
-          × (gone ≤ place → Says o n (spelling (version_of task) messages.Bye) (Ok u))) new
-          last → Promise statuses.Accepted
+      -- what was said on a link up to the end of the attempts, and more
+      abbrev behind_attempts : ℕ → List TalkEvent → List TalkEvent
+      behind_attempts k more =
+          get_or mid k [] ++ said_to (version_of task) task.depth U (suc k) to.attempts ++ more
+
+      -- this is what each helper heard behind its attempts
+      abbrev Parts : (ℕ → List TalkEvent → Type 0) → Type 0
+      Parts after = (k : ℕ) → k < length new → (more : List TalkEvent) → more ≡ []
+          → (all : List TalkEvent) × after (suc k) all
+          × (get_or new k [] ≡ behind_attempts k more → get_or last k [] ≡ behind_attempts k all)
+
+      -- a helper that was dropped heard nothing
+      dropped_hears : (k : ℕ) (more : List TalkEvent) → more ≡ [] → get_or last k [] ≡ get_or new k []
+          → get_or new k [] ≡ behind_attempts k more → get_or last k [] ≡ behind_attempts k []
+      dropped_hears k more none same e = same ∙ e ∙ ap (behind_attempts k) none
+
+      -- one that is left heard these bytes
+      left_hears : (k : ℕ) (more : List TalkEvent) (bytes : List ℕ) → more ≡ []
+          → get_or last k [] ≡ get_or new k [] ++ outs bytes
+          → get_or new k [] ≡ behind_attempts k more
+          → get_or last k [] ≡ behind_attempts k (outs bytes)
+      left_hears k more bytes none said e =
+          said ∙ ap (λ l. l ++ outs bytes) (e ∙ ap (behind_attempts k) none ∙ append-nil _)
+
+      -- what a helper that is left hears in the farewell, and another one does not
+      abbrev farewell : Bool → List TalkEvent
+      farewell b = if b then bye_sent (version_of task) else []
+
+      abbrev bye : List ℕ
+      bye = spelling (version_of task) messages.Bye
+
+      pub all_answered : (u : Unit {0}) → SaysBehind gone new last bye (Ok u)
+          → Promise statuses.Accepted
       all_answered u each =
           clause helpers task x some can deep most room before now to.attempts statuses.Accepted
           (are_attempts new blank full to.attempts _ _ to.trail)
           (record {
             all = ap (λ (t : Turn). t.number) to.behind;
             went = went new blank full last told sized long to.attempts _
-                (λ helper more. more ≡ (if is_left turn helper then bye_sent (version_of task)
-                else [])) _ to.trail (λ k more less none. farewell k less more none);
+                (λ helper more. more ≡ farewell (is_left turn helper)) _ to.trail
+                (λ k more less none. parts k less more none);
             report = wrote _ to.trail.report;
           }) can_be_judged (λ any. can_be_judged)
         where
-          farewell : (k : ℕ) → k < length new → (more : List TalkEvent) → more ≡ []
-              → (all : List TalkEvent) × (all
-              ≡ (if is_left turn (suc k) then bye_sent (version_of task) else []))
-              × (get_or new k [] ≡ get_or mid k [] ++ said_to (version_of task) task.depth U
-              (suc k) to.attempts ++ more
-              → get_or last k [] ≡ get_or mid k [] ++ said_to (version_of task) task.depth
-              U (suc k) to.attempts ++ all)
-          farewell k less more none = elim (cases_lt k gone) [
+          parts : Parts (λ helper more. more ≡ farewell (is_left turn helper))
+          parts k less more none = elim (cases_lt k gone) [
             | inl before ↦ (
               [],
-              ap (λ (b : Bool). if b then bye_sent (version_of task) else [])
-                  (sym (left_not k before)),
-              λ e. (each k less).0 before ∙ e
-                  ∙ ap (λ l. get_or mid k [] ++ said_to (version_of task) task.depth U
-                  (suc k) to.attempts ++ l) none,
+              ap farewell (sym (left_not k before)),
+              dropped_hears k more none ((each k less).0 before),
             )
             | inr behind ↦ (
               bye_sent (version_of task),
-              ap (λ (b : Bool). if b then bye_sent (version_of task) else [])
-                  (sym (left_is k behind)),
-              λ e. (each k less).1 behind ∙ ap (λ l.
-                  l ++ outs (spelling (version_of task) messages.Bye))
-                  (e ∙ ap (λ l. get_or mid k [] ++ said_to (version_of task) task.depth U
-                  (suc k) to.attempts ++ l) none ∙ append-nil _)
-                  ∙ ap (λ l. get_or mid k [] ++ said_to (version_of task) task.depth U (suc k)
-                  to.attempts ++ outs l) (sym (append-nil
-                  (spelling (version_of task) messages.Bye))),
+              ap farewell (sym (left_is k behind)),
+              λ e. left_hears k more bye none ((each k less).1 behind) e
+                  ∙ ap (λ l. behind_attempts k (outs l)) (sym (append-nil bye)),
             )
           ]
 
-      pub cut_in_farewell : (stop : PortStop)
-          → Each (λ place o n. (place < gone → n ≡ o)
-          × (gone ≤ place → Says o n (spelling (version_of task) messages.Bye) (Err stop))) new
-          last → Promise statuses.OutOfMemory
+      pub cut_in_farewell : (stop : PortStop) → SaysBehind gone new last bye (Err stop)
+          → Promise statuses.OutOfMemory
       cut_in_farewell stop each =
           clause helpers task x some can deep most room before now to.attempts statuses.OutOfMemory
           (are_attempts new blank full to.attempts _ _ to.trail)
@@ -609,30 +616,17 @@ module _ (helpers : ℕ) (task : Task) (x : PanelExchange) (some : 0 < helpers)
             waits = tt;
             went = went new blank full last told sized long to.attempts _
                 (λ helper more. IsPrefix more (due helpers task x turn None helper)) _ to.trail
-                (λ k more less none. farewell k less more none);
+                (λ k more less none. parts k less more none);
             report = wrote _ to.trail.report;
           }))) tt (λ any. can_be_judged)
         where
-          farewell : (k : ℕ) → k < length new → (more : List TalkEvent) → more ≡ []
-              → (all : List TalkEvent) × IsPrefix all (due helpers task x turn None (suc k))
-              × (get_or new k [] ≡ get_or mid k [] ++ said_to (version_of task) task.depth U
-              (suc k) to.attempts ++ more
-              → get_or last k [] ≡ get_or mid k [] ++ said_to (version_of task) task.depth
-              U (suc k) to.attempts ++ all)
-          farewell k less more none = elim (cases_lt k gone) [
-            | inl before ↦ (
-              [],
-              (_, refl),
-              λ e. (each k less).0 before ∙ e
-                  ∙ ap (λ l. get_or mid k [] ++ said_to (version_of task) task.depth U (suc k)
-                  to.attempts ++ l) none,
-            )
+          parts : Parts (λ helper more. IsPrefix more (due helpers task x turn None helper))
+          parts k less more none = elim (cases_lt k gone) [
+            | inl before ↦ ([], (_, refl), dropped_hears k more none ((each k less).0 before))
             | inr behind ↦
                 let said = (each k less).1 behind in
-                let bye : List ℕ = spelling (version_of task) messages.Bye in
                 let whole : due helpers task x turn None (suc k) ≡ bye_sent (version_of task) =
-                ap (λ (b : Bool). (if turn.helper == suc k then [] else [])
-                ++ (if b then bye_sent (version_of task) else []))
+                ap (λ (b : Bool). (if turn.helper == suc k then [] else []) ++ farewell b)
                 (ap (λ (b : Bool). b && is_left turn (suc k)) answered ∙ left_is k behind)
                 ∙ ap (λ l. l ++ bye_sent (version_of task))
                 (none_either (turn.helper == suc k)) in (
@@ -643,8 +637,6 @@ module _ (helpers : ℕ) (task : Task) (x : PanelExchange) (some : 0 < helpers)
                         ∙ ap outs (sym (take-append-drop said.0 bye))
                         ∙ outs-append (take said.0 bye) (drop said.0 bye),
                   ),
-                  λ e. said.1 ∙ ap (λ l. l ++ outs (take said.0 bye))
-                      (e ∙ ap (λ l. get_or mid k [] ++ said_to (version_of task) task.depth U
-                      (suc k) to.attempts ++ l) none ∙ append-nil _),
+                  left_hears k more (take said.0 bye) none said.1,
                 )
           ]

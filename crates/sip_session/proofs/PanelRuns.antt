@@ -22,19 +22,22 @@ use Rattle.sip_verifier.specs.inside.Ending.{status_of_link}
 use Rattle.sip_verifier.specs.Snapshots.{Counts, counts}
 use Rattle.sip_verifier.specs.runs.Concluding.{Reports}
 use Rattle.sip_verifier.specs.Seats.{Seating}
+use Rattle.sip_verifier.specs.QuerySeats.{StandsFor}
 use Rattle.sip_verifier.specs.Sittings.{Sitting, Starts, asks_left}
 use Rattle.sip_verifier.specs.Statuses.{FaultClause, IsListed, Stops, stops_asking}
 use Rattle.sip_verifier.specs.Tasks.{CanBeDone, version_of}
 use Rattle.sip_verifier.proofs.QueriesChecked.{OnLink}
 use Rattle.sip_verifier.proofs.RunPromises.{asking_listed}
 use Rattle.sip_verifier.proofs.RunTalks.{goes_to, some_value}
+use Rattle.sip_verifier.proofs.SeatedBehind.{seats_left}
 use Rattle.sip_session.specs.inside.Beginning.{Begins, IsHeard, task_of_seats}
-use Rattle.sip_session.specs.inside.Hearing.{AllTalks, Each, Says}
+use Rattle.sip_session.specs.inside.Hearing.{AllTalks, SaysBehind}
 use Rattle.sip_session.specs.inside.Trying.{Halts, Trails}
 use Rattle.sip_session.specs.PanelClause.{PanelClause}
 use Rattle.sip_session.specs.PanelExchanges.{PanelExchange, PanelIsTold, PanelSnapshot, PanelTells}
 use Rattle.sip_session.proofs.Begun.{caused_by, never_rose}
 use Rattle.sip_session.proofs.PanelEndings.{all_answered, cut_in_farewell, depth_is, halted, in_part, refused, too_wide, version_is}
+use Rattle.sip_session.proofs.Places.{told_length}
 
 -- ports that tell go on telling
 pub panel_tells : (old new : PanelSnapshot) → PanelIsTold old → (IsSome old.first → IsSome new.first)
@@ -131,18 +134,44 @@ module _ (helpers : ℕ) (task : Task) (some : 0 < helpers) (can : CanBeDone tas
 
 -- ---- behind the stream
 
-module _ (helpers : ℕ) (task : Task) (some : 0 < helpers) (can : CanBeDone task)
+-- The seats that are left to ask stand for the stream: one helper heard it.
+pub left_stand : (wide : Task) (bytes seed : List ℕ) (left : Option (List ℕ)) (old mid : AllTalks)
+    (seats : Seating) (session : Sitting) → 0 < length old
+    → IsHeard wide bytes seed left old mid seats → Starts (version_of wide) seats (Ok session)
+    → All (StandsFor session.depth (legal wide bytes)) session.left
+left_stand wide bytes seed left old mid seats session some heard starts =
+    (seats_left _ _ _ (legal wide bytes) seats _ _ (heard.each 0 some).stand starts).1
+
+module _ {L : Type 0} (talk : L → List TalkEvent) (links begun : List L)
+    (kept : length begun ≡ length links) (none : All (λ l. talk l ≡ []) links)
+    (task : Task) (some : 0 < length links) (can : CanBeDone task)
     (deep : 1 ≤ task.depth) (most : task.depth ≤ most_depth)
-    (room : length task.queries.items ≤ most_queries) (x : PanelExchange) (before now : Counts) (left : Option (List ℕ))
-    (unread : left ≡ Some x.unread)
-    (old mid : AllTalks) (size : length old ≡ helpers) (count : length mid ≡ length old)
-    (fresh : (k : ℕ) → k < length old → get_or old k [] ≡ [])
-    (seats : Seating) (heard : IsHeard (task_of_seats helpers task) x.stream x.seed left old mid
-    seats) (session : Sitting) (starts : Starts (version_of (task_of_seats helpers task)) seats
-    (Ok session))
+    (room : length task.queries.items ≤ most_queries) (x : PanelExchange) (before now : Counts)
+    (left : Option (List ℕ)) (unread : left ≡ Some x.unread)
+    (seats : Seating) (heard : IsHeard (task_of_seats (length links) task) x.stream x.seed left
+    (map talk links) (map talk begun) seats) (session : Sitting)
+    (starts : Starts (version_of (task_of_seats (length links) task)) seats (Ok session))
     (blank full : Option (List TalkEvent))
     (wrote : (bytes : List ℕ) → GoesOn blank full (outs bytes) → x.report ≡ bytes)
     (queries : ℕ) (number : queries ≡ length task.queries.items) where
+  abbrev helpers : ℕ
+  helpers = length links
+
+  abbrev old : AllTalks
+  old = map talk links
+
+  abbrev mid : AllTalks
+  mid = map talk begun
+
+  size : length old ≡ helpers
+  size = length-map links talk
+
+  count : length mid ≡ length old
+  count = told_length talk links begun kept
+
+  fresh : (k : ℕ) → k < length old → get_or old k [] ≡ []
+  fresh = told_nothing talk links none
+
   abbrev OfSession : AllTalks → Result ℕ Status → Type 0
   OfSession new r =
       Trails session.version session.depth (legal task x.stream) helpers queries
@@ -170,39 +199,42 @@ module _ (helpers : ℕ) (task : Task) (some : 0 < helpers) (can : CanBeDone tas
       (asks_left session.left) mid new blank full r) v trails))
 
   -- a helper could not be asked any more
-  pub stopped_asking : (new : AllTalks) → new ≡ x.talks → length new ≡ length mid
-      → (status : Status) → OfSession new (Err status) → FaultClause before now status
+  pub stopped_asking : (asked : List L) → length asked ≡ length begun → map talk asked ≡ x.talks
+      → (status : Status) → OfSession (map talk asked) (Err status) → FaultClause before now status
       → PanelClause helpers task x before now status
-  stopped_asking new told sized status trails fault =
+  stopped_asking asked still told status trails fault =
       halted helpers task x some can deep most room before now left unread old mid size count fresh seats
-      heard session starts blank full wrote new told sized status
-      (in_terms new (Err status) trails) fault
+      heard session starts blank full wrote (map talk asked) told (told_length talk begun asked still)
+      status (in_terms (map talk asked) (Err status) trails) fault
 
   -- all were answered, and the farewell was said, or cut short
-  pub said_farewell : (new last : AllTalks) → last ≡ x.talks → length new ≡ length mid
-      → length last ≡ length new → (gone : ℕ) → OfSession new (Ok gone)
+  pub said_farewell : (asked ended : List L) → length asked ≡ length begun
+      → length ended ≡ length asked → map talk ended ≡ x.talks
+      → (gone : ℕ) → OfSession (map talk asked) (Ok gone)
       → (sent : Result (Unit {0}) PortStop) (r : Result (Unit {0}) Status) → OnLink sent r
       → sent ≢ Err port_stops.Failed
-      → Each (λ place o n. (place < gone → n ≡ o)
-      × (gone ≤ place → Says o n (spelling (version_of task) messages.Bye) sent)) new last
+      → SaysBehind gone (map talk asked) (map talk ended)
+      (spelling (version_of task) messages.Bye) sent
       → PanelClause helpers task x before now (status_of r)
-  said_farewell new last told sized long gone trails (Ok u) (Ok v) on never each =
+  said_farewell asked ended still kept_on told gone trails (Ok u) (Ok v) on never each =
       all_answered helpers task x some can deep most room before now left unread old mid size count fresh
-      seats heard session starts blank full wrote new last told sized long gone
-      (in_terms new (Ok gone) trails) u each
-  said_farewell new last told sized long gone trails (Ok u) (Err status) (port, is, same) never
-      each = absurd cc
-  said_farewell new last told sized long gone trails (Err e) (Ok v) on never each = absurd cc
-  said_farewell new last told sized long gone trails (Err port_stops.Failed) (Err status) on never
-      each = absurd (never refl)
-  said_farewell new last told sized long gone trails (Err port_stops.OutOfMemory) (Err status)
+      seats heard session starts blank full wrote (map talk asked) (map talk ended) told
+      (told_length talk begun asked still) (told_length talk asked ended kept_on) gone
+      (in_terms (map talk asked) (Ok gone) trails) u each
+  said_farewell asked ended still kept_on told gone trails (Ok u) (Err status) (port, is, same)
+      never each = absurd cc
+  said_farewell asked ended still kept_on told gone trails (Err e) (Ok v) on never each = absurd cc
+  said_farewell asked ended still kept_on told gone trails (Err port_stops.Failed) (Err status) on
+      never each = absurd (never refl)
+  said_farewell asked ended still kept_on told gone trails (Err port_stops.OutOfMemory) (Err status)
       (port, is, same) never each =
       let stop : port_stops.OutOfMemory ≡ port = err_same port is in
       subst (λ (s : Status). PanelClause helpers task x before now s)
       (sym (same ∙ ap status_of_link (sym stop)))
       (cut_in_farewell helpers task x some can deep most room before now left unread old mid size count fresh
-      seats heard session starts blank full wrote new last told sized long gone
-      (in_terms new (Ok gone) trails) port_stops.OutOfMemory each)
+      seats heard session starts blank full wrote (map talk asked) (map talk ended) told
+      (told_length talk begun asked still) (told_length talk asked ended kept_on) gone
+      (in_terms (map talk asked) (Ok gone) trails) port_stops.OutOfMemory each)
     where
       err_same : (port : PortStop)
           → ◌≡◌ {A = Result (Unit {0}) PortStop} (Err port_stops.OutOfMemory) (Err port)

@@ -7,7 +7,7 @@ use Rattle.std.proofs.lemmas.Bool.{cases_eq, cases_lt}
 use Rattle.sip_ports.specs.declared.port.PortStop.{PortStop}
 use Rattle.sip_ports.specs.declared.port.TalkEvent.{TalkEvent}
 use Rattle.sip_ports.specs.Ports.{outs}
-use Rattle.sip_session.specs.inside.Hearing.{AllTalks, Each, Says, SaysAll}
+use Rattle.sip_session.specs.inside.Hearing.{AllTalks, Each, Says, SaysAll, SaysBehind}
 
 -- ---- one place
 
@@ -58,13 +58,13 @@ module _ (old now : AllTalks) (from i : ℕ) (said : List TalkEvent) (so : SaidU
 
 -- all was said
 pub all_said : (old now : AllTalks) (from upto : ℕ) (bytes : List ℕ) (x : Unit {0}) → SaidUpTo old now from upto (outs bytes) → length old ≤ upto
-    → Each (λ place o n. (place < from → n ≡ o) × (from ≤ place → Says o n bytes (Ok x))) old now
+    → SaysBehind from old now bytes (Ok x)
 all_said old now from upto bytes x so enough = λ k less. (λ first. so.before k less first, λ later. so.done k less later (omega arith))
 
 -- a link stopped
 pub cut_said : (old now : AllTalks) (from i : ℕ) (bytes : List ℕ) (e : PortStop) → SaidUpTo old now from i (outs bytes) → from ≤ i → i < length now
     → (t : List TalkEvent) → Says (get_or now i []) t bytes (Err e)
-    → Each (λ place o n. (place < from → n ≡ o) × (from ≤ place → Says o n bytes (Err e))) old (set now i t)
+    → SaysBehind from old (set now i t) bytes (Err e)
 cut_said old now from i bytes e so least inside t said = λ k less. (
   λ first. elsewhere now i k t (λ same. absurd (omega (arith, same))) ∙ so.before k less first,
   λ later. elim (cases_eq k i) [
@@ -97,6 +97,9 @@ module _ {L : Type 0} (talk : L → List TalkEvent) where
   pub told_length : (links others : List L) → length others ≡ length links → length (map talk others) ≡ length (map talk links)
   told_length links others same = length-map others talk ∙ same ∙ sym (length-map links talk)
 
+  pub told_some : (links : List L) → 0 < length links → 0 < length (map talk links)
+  told_some links some = omega (arith, length-map links talk, some)
+
   -- one link said more
   pub links_more : (old : AllTalks) (links : List L) (from i : ℕ) (said : List TalkEvent) → SaidUpTo old (map talk links) from i said → from ≤ i → i < length links
       → (one read : L) → talk one ≡ talk (get_or links i read) ++ said → SaidUpTo old (map talk (set links i one)) from (i + 1) said
@@ -108,10 +111,10 @@ module _ {L : Type 0} (talk : L → List TalkEvent) where
   -- one link stopped
   pub links_cut : (old : AllTalks) (links : List L) (from i : ℕ) (bytes : List ℕ) (e other : PortStop) → SaidUpTo old (map talk links) from i (outs bytes) → from ≤ i → i < length links
       → (one read : L) → Says (talk (get_or links i read)) (talk one) bytes (Err e)
-      → Each (λ place o n. (place < from → n ≡ o) × (from ≤ place → Says o n bytes (Err other))) old (map talk (set links i one))
+      → SaysBehind from old (map talk (set links i one)) bytes (Err other)
   links_cut old links from i bytes e other so least less one read is =
       let size : length (map talk links) ≡ length links = length-map links talk in
-      subst (Each (λ place o n. (place < from → n ≡ o) × (from ≤ place → Says o n bytes (Err other))) old) (sym (told_set links i one))
+      subst (λ l. SaysBehind from old l bytes (Err other)) (sym (told_set links i one))
       (cut_said old (map talk links) from i bytes other so least (omega arith) (talk one) (is.0, is.1 ∙ ap (λ l. l ++ outs (take is.0 bytes)) (sym (get_or-map talk links i read [] less))))
 
   -- what one link tells stays
@@ -120,7 +123,7 @@ module _ {L : Type 0} (talk : L → List TalkEvent) where
       told_set links i one ∙ ap (set (map talk links) i) (is ∙ sym (get_or-map talk links i read [] less)) ∙ set-get_or (map talk links) i []
 
 -- on all links
-pub on_all : (old new : AllTalks) (bytes : List ℕ) (r : Result (Unit {0}) PortStop) → Each (λ place o n. (place < 0 → n ≡ o) × (0 ≤ place → Says o n bytes r)) old new → SaysAll old new bytes r
+pub on_all : (old new : AllTalks) (bytes : List ℕ) (r : Result (Unit {0}) PortStop) → SaysBehind 0 old new bytes r → SaysAll old new bytes r
 on_all old new bytes r each = λ k less. (each k less).1 (omega arith)
 
 -- what holds of the first links holds of one more

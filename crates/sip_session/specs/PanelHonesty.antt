@@ -4,8 +4,8 @@
 -- A helper is honest here where the talk of its link is an honest one: by the turns of a helper, up
 -- to where the other side left them, or to the end. Such is the talk of each link to a helper that
 -- tells its state and had heard nothing.
-use Rattle.std.specs.Prelude.{◌≡◌, ◌⊎◌, ◌-◌, ◌<◌, ◌≤◌, ⊤, ℕ, List, [], ◌∷◌, ◌++◌, flat_map, length}
-use Rattle.std.specs.Prelude.{slice_index_or, All, Some}
+use Rattle.std.specs.Prelude.{◌≡◌, ◌≢◌, ◌⊎◌, ◌-◌, ◌<◌, ◌≤◌, ⊤, ℕ, List, [], ◌∷◌, ◌++◌, flat_map}
+use Rattle.std.specs.Prelude.{length, slice_index_or, All, Some}
 use Rattle.sip_duel.specs.Story.{IsHonestTalk}
 use Rattle.sip_helper.specs.KindRows.{not_strict, too_many, want_of_memory}
 use Rattle.sip_replies.specs.Replies.{Fault}
@@ -15,21 +15,25 @@ use Rattle.sip_vector.specs.declared.query.Query.TheVariants.{Sub, Heavy, Share}
 use Rattle.sip_vector.specs.declared.update.Side.TheVariants.{First}
 use Rattle.sip_vector.specs.declared.update.Update.{Update}
 use Rattle.sip_vector.specs.Answers.{Answer, answer}
+use Rattle.sip_vector.specs.Limits.{most_depth}
 use Rattle.sip_vector.specs.Streams.{IsStrict, vector}
 use Rattle.sip_vector.specs.Vectors.{nonzero_within}
 use Rattle.sip_wire.specs.declared.message.Reason.{Reason}
 use Rattle.sip_wire.specs.declared.message.Reason.TheVariants as reasons
+use Rattle.sip_wire.specs.Table.{most_queries}
 use Rattle.sip_verifier.specs.declared.status.Status.{Status}
 use Rattle.sip_verifier.specs.declared.status.Status.TheVariants as statuses
 use Rattle.sip_verifier.specs.declared.task.Task.{Task}
 use Rattle.sip_verifier.specs.CompletenessClause.{HasFewEntries, NoneRose}
 use Rattle.sip_verifier.specs.Gathering.{EndsLegally, legal}
 use Rattle.sip_verifier.specs.Snapshots.{Counts}
-use Rattle.sip_verifier.specs.Questions.{Question}
+use Rattle.sip_verifier.specs.Questions.{Question, asking}
 use Rattle.sip_verifier.specs.Reports.{line, report_of}
-use Rattle.sip_verifier.specs.Tasks.{version_of}
-use Rattle.sip_session.specs.PanelExchanges.{PanelExchange}
-use Rattle.sip_session.specs.Panels.{Attempt, Outcome, accepted, rejected, inquiry_of_panel}
+use Rattle.sip_verifier.specs.runs.CauseClause.{CanBeJudged}
+use Rattle.sip_verifier.specs.Tasks.{CanBeDone, version_of}
+use Rattle.sip_session.specs.PanelExchanges.{PanelExchange, without_links}
+use Rattle.sip_session.specs.Panels.{Attempt, AreAttempts, Outcome, accepted, rejected}
+use Rattle.sip_session.specs.Panels.{inquiry_of_panel}
 
 -- ---- why an honest helper may be dropped
 
@@ -91,6 +95,19 @@ IsRejected status =
     (query round : ℕ) × (reason : Reason) × (status ≡ statuses.Rejected query round reason)
 
 module _ (helpers : ℕ) (task : Task) (x : PanelExchange) where
+  -- the task can be done, and these are attempts at it
+  pub record IsAttempted (attempts : List Attempt) : Type 0 where
+    pub some : 1 ≤ task.depth
+    pub most : task.depth ≤ most_depth
+    pub room : length task.queries.items ≤ most_queries
+    pub can : CanBeDone task
+    pub are : AreAttempts helpers task x.seed x.stream attempts
+
+  -- where a helper was asked, the queries might be
+  abbrev pub MightBeAsked : List Attempt → Type 0
+  MightBeAsked attempts = attempts ≢ []
+      → CanBeJudged asking (inquiry_of_panel helpers task x.seed) (without_links x)
+
   -- the talk with this helper, counted from 1, is an honest one
   abbrev pub IsHonest : ℕ → Type 0
   IsHonest helper = IsHonestTalk (slice_index_or x.talks (helper - 1) [])

@@ -18,7 +18,7 @@ ghost use Rattle.sip_verifier.specs.QuerySeats.{HaveRoom};
 ghost use Rattle.sip_verifier.specs.Seats.{AreSeats};
 ghost use Rattle.sip_verifier.specs.Statuses.{Stops, stops_following};
 ghost use Rattle.sip_verifier.specs.Weights.{AreWeights};
-ghost use Rattle.sip_session.specs.inside.Hearing.{Each, HearsStream, Says, SaysAll};
+ghost use Rattle.sip_session.specs.inside.Hearing.{Each, HearsStream, Says, SaysAll, SaysBehind};
 ghost use Rattle.sip_session.specs.Links.{EachLink, talks_of};
 
 use sip_duel::HelperLink;
@@ -53,12 +53,30 @@ fn copy(link: &mut HelperLink, feed: &Feed) -> Result<(), PortStop>
     feed.copy_to(link)
 }
 
-/// Sends a message to each of these helpers.
-pub(crate) fn say_all(
+/// Sends a message to the helpers that are left: so many were dropped.
+fn say_behind(
     links: &mut [HelperLink],
+    gone: usize,
     message: &Message,
     version: Version,
 ) -> Result<(), PortStop>
+    requires gone { gone ≤ length links.old }
+    requires fits { IsTrue (fits version message.now) }
+    ensures talks { SaysBehind gone (talks_of links.old) (talks_of links.new)
+        (spelling version message.now) result }
+    ensures count { length links.new ≡ length links.old }
+    ensures sure { EachLink (λ _ l m. ⟦<HelperLink as Sink>⟧.is_sure l
+        → ⟦<HelperLink as Sink>⟧.is_sure m) links.old links.new }
+    ensures cause { result ≢ Err PortStop.Failed }
+{
+    for place in gone..links.len() {
+        say(&mut links[place], message, version)?;
+    }
+    Ok(())
+}
+
+/// Sends a message to each of these helpers.
+fn say_all(links: &mut [HelperLink], message: &Message, version: Version) -> Result<(), PortStop>
     requires { IsTrue (fits version message.now) }
     ensures talks { SaysAll (talks_of links.old)
         (talks_of links.new) (spelling version message.now) result }
@@ -67,10 +85,7 @@ pub(crate) fn say_all(
         → ⟦<HelperLink as Sink>⟧.is_sure m) links.old links.new }
     ensures cause { result ≢ Err PortStop.Failed }
 {
-    for place in 0..links.len() {
-        say(&mut links[place], message, version)?;
-    }
-    Ok(())
+    say_behind(links, 0, message, version)
 }
 
 /// Opens the talk with each helper. The opening is made in a call of its own, since a message is as
@@ -194,18 +209,14 @@ pub(crate) fn say_bye(
     version: Version,
 ) -> Result<(), PortStop>
     requires { gone ≤ length links.old }
-    ensures talks { Each (λ place o n. (place < gone → n ≡ o)
-        × (gone ≤ place → Says o n (spelling version messages.Bye) result))
-        (talks_of links.old) (talks_of links.new) }
+    ensures talks { SaysBehind gone (talks_of links.old) (talks_of links.new)
+        (spelling version messages.Bye) result }
     ensures count { length links.new ≡ length links.old }
     ensures sure { EachLink (λ _ l m. ⟦<HelperLink as Sink>⟧.is_sure l
         → ⟦<HelperLink as Sink>⟧.is_sure m) links.old links.new }
     ensures cause { result ≢ Err PortStop.Failed }
 {
-    for place in gone..links.len() {
-        say(&mut links[place], &Message::Bye, version)?;
-    }
-    Ok(())
+    say_behind(links, gone, &Message::Bye, version)
 }
 
 /// Opens the talk with each helper, reads the stream of `first` to its end, sends it to each and

@@ -4,25 +4,22 @@
 //! A helper is honest here where the talk of its link is an honest one, as it is where it tells its
 //! state and had heard nothing.
 
-ghost use Rattle.std.specs.Prelude.{◌≡◌, ◌≢◌, ◌≤◌, ℕ, List, [], ◌∷◌, ◌++◌, codes, length};
+ghost use Rattle.std.specs.Prelude.{◌≡◌, ℕ, List, [], ◌∷◌, ◌++◌, codes};
 ghost use Rattle.sip_helper.specs.KindRows.{not_strict, out_of_turn, want_of_memory};
 ghost use Rattle.sip_vector.specs.declared.query.Query.TheVariants.{F2, Heavy, Inner};
 ghost use Rattle.sip_vector.specs.declared.update.Side.TheVariants.{First};
-ghost use Rattle.sip_vector.specs.Limits.{most_depth};
 ghost use Rattle.sip_wire.specs.declared.message.Reason.{Reason as AnyReason};
-ghost use Rattle.sip_wire.specs.Table.{most_queries};
 ghost use Rattle.sip_verifier.specs.declared.status.Status.{Status as AnyStatus};
 ghost use Rattle.sip_verifier.specs.declared.task.Task.{Task as AnyTask};
 ghost use Rattle.sip_verifier.specs.Snapshots.{Counts as AnyCounts};
 ghost use Rattle.sip_verifier.specs.Questions.{asking};
-ghost use Rattle.sip_verifier.specs.runs.CauseClause.{CanBeJudged, CauseClause};
-ghost use Rattle.sip_verifier.specs.Tasks.{CanBeDone};
+ghost use Rattle.sip_verifier.specs.runs.CauseClause.{CauseClause};
 ghost use Rattle.sip_session.specs.PanelEnds.{Ends};
 ghost use Rattle.sip_session.specs.PanelExamples.{one_below, three_helpers};
 ghost use Rattle.sip_session.specs.PanelExchanges.{PanelExchange, without_links};
 ghost use Rattle.sip_session.specs.PanelHonesty.{AnswersAreOwn, AreDroppedRightly, IsCarried};
-ghost use Rattle.sip_session.specs.PanelHonesty.{IsRight, answer_lines};
-ghost use Rattle.sip_session.specs.Panels.{Attempt, AreAttempts, inquiry_of_panel};
+ghost use Rattle.sip_session.specs.PanelHonesty.{IsAttempted, IsRight, MightBeAsked, answer_lines};
+ghost use Rattle.sip_session.specs.Panels.{Attempt, inquiry_of_panel};
 
 /// Why an honest helper may be dropped, by hand: for want of memory, whatever is asked, but not for
 /// a reply that is cut short nor for a message out of turn; for a negative entry where heavy
@@ -46,10 +43,8 @@ pub fn answers_by_hand()
 pub fn honest_helpers_are_dropped_rightly()
     ensures { (helpers : ℕ) (task : AnyTask) (x : PanelExchange) (attempts : List Attempt)
         (status : AnyStatus)
-        → 1 ≤ task.depth → task.depth ≤ most_depth → length task.queries.items ≤ most_queries
-        → CanBeDone task → AreAttempts helpers task x.seed x.stream attempts
-        → (attempts ≢ []
-        → CanBeJudged asking (inquiry_of_panel helpers task x.seed) (without_links x))
+        → IsAttempted helpers task x attempts
+        → MightBeAsked helpers task x attempts
         → Ends helpers task x attempts status
         → AreDroppedRightly helpers task x attempts }
 {}
@@ -60,8 +55,7 @@ pub fn honest_helpers_are_dropped_rightly()
 pub fn panels_with_an_honest_helper_are_carried()
     ensures { (helpers : ℕ) (task : AnyTask) (x : PanelExchange) (attempts : List Attempt)
         (before now : AnyCounts) (status : AnyStatus)
-        → 1 ≤ task.depth → task.depth ≤ most_depth → length task.queries.items ≤ most_queries
-        → CanBeDone task → AreAttempts helpers task x.seed x.stream attempts
+        → IsAttempted helpers task x attempts
         → Ends helpers task x attempts status
         → CauseClause asking (inquiry_of_panel helpers task x.seed) (without_links x) before now
         status
@@ -73,10 +67,8 @@ pub fn panels_with_an_honest_helper_are_carried()
 pub fn honest_panels_give_the_streams_answers()
     ensures { (helpers : ℕ) (task : AnyTask) (x : PanelExchange) (attempts : List Attempt)
         (status : AnyStatus)
-        → 1 ≤ task.depth → task.depth ≤ most_depth → length task.queries.items ≤ most_queries
-        → CanBeDone task → AreAttempts helpers task x.seed x.stream attempts
-        → (attempts ≢ []
-        → CanBeJudged asking (inquiry_of_panel helpers task x.seed) (without_links x))
+        → IsAttempted helpers task x attempts
+        → MightBeAsked helpers task x attempts
         → Ends helpers task x attempts status
         → AnswersAreOwn helpers task x attempts status }
 {}

@@ -1,6 +1,6 @@
 -- What a call did to the links on which a panel sends. (For the proof of `panel` alone.)
-use Rattle.std.specs.Prelude.{◌≡◌, ◌<◌, ℕ, List, [], ◌++◌, length, slice_index_or, take, Option}
-use Rattle.std.specs.Prelude.{Some, Result, Ok, Err}
+use Rattle.std.specs.Prelude.{◌≡◌, ◌<◌, ◌≤◌, ℕ, List, [], ◌++◌, length, slice_index_or, take}
+use Rattle.std.specs.Prelude.{Option, Some, Result, Ok, Err}
 use Rattle.sip_ports.specs.declared.port.PortStop.{PortStop}
 use Rattle.sip_ports.specs.declared.port.TalkEvent.{TalkEvent}
 use Rattle.sip_ports.specs.Ports.{outs}
@@ -30,6 +30,11 @@ Says old new bytes (Err _) = (n : ℕ) × (new ≡ old ++ outs (take n bytes))
 -- likewise on each link
 abbrev pub SaysAll : AllTalks → AllTalks → List ℕ → Result (Unit {0}) PortStop → Type 0
 SaysAll old new bytes result = Each (λ _ o n. Says o n bytes result) old new
+
+-- likewise on each link from a place on, and on those before it nothing happened
+abbrev pub SaysBehind : ℕ → AllTalks → AllTalks → List ℕ → Result (Unit {0}) PortStop → Type 0
+SaysBehind from old new bytes result =
+    Each (λ place o n. (place < from → n ≡ o) × (from ≤ place → Says o n bytes result)) old new
 
 module _ (task : Task) (bytes : List ℕ) where
   -- a front was sent of what a stream sends, as far as it is legal

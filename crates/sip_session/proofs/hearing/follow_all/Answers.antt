@@ -1,6 +1,6 @@
 -- What holds at each exit of each helper follows from how far the stream was read, sent and added
 -- to the seats.
-use Rattle.std.proofs.Common.{List, length, arith, All, ◌≡◌, ◌<◌, ◌≤◌, ◌^◌, ◌∙◌, ◌++◌, [], rules, ap, subst, sym, false}
+use Rattle.std.proofs.Common.{List, Option, Ok, length, arith, All, ◌≡◌, ◌<◌, ◌≤◌, ◌^◌, ◌∙◌, ◌++◌, [], rules, ap, subst, sym, false}
 use Rattle.std.proofs.lemmas.List.{length-map}
 use Rattle.std.proofs.lemmas.List.Elements.{All-append, All-nil}
 use Rattle.std.proofs.lemmas.Result.{err_from_is_err_and}
@@ -18,7 +18,7 @@ use Rattle.sip_verifier.proofs.FramesFit.{item_below, open_fits}
 use Rattle.sip_verifier.proofs.Gathered.{IsFollowed, followed_many, followed_on, followed_one, followed_room, fair_items, weighed}
 use Rattle.sip_verifier.proofs.SeatsHead.{depth-shallow}
 use Rattle.sip_session.specs.Links.{talks_of}
-use Rattle.sip_session.proofs.Heard.{heard_first, heard_more, link_listed, link_stops, on_end, part_after, part_at_end, part_first, stream_stops}
+use Rattle.sip_session.proofs.Heard.{heard_first, heard_more, link_listed, link_stops, on_end, part_after, part_at_end, part_first, reads_on, stream_stops}
 use Rattle.sip_session.proofs.LinkLemmas.{links_then}
 use Rattle.sip_session.proofs.Places.{within}
 use Rattle.sip_session.proofs.hearing.follow_all.Goals as goal
@@ -83,11 +83,9 @@ returns-in_err-update-clause-hears g c = λ bytes at_blocks all has.
     let (fault, stop, is) = c.in_err-update.ensures in
     rw (p.1, p.2, is) (λ k less.
     let so = c.loop-update.invariant.underway bytes at_blocks all has k less in
-    let reads = rw (
-      c.loop-update.invariant.depth,
-      c.loop-update.invariant.form,
-      stop,
-    ) at (c.next.ensures.reads so.stream so.rest so.after so.to_come) in
+    let reads = reads_on c.args.task.now bytes at_blocks _ (g.A.Source.left c.next.new.source) _ _ _ _ _ so _ _
+    c.loop-update.invariant.depth c.loop-update.invariant.form
+    stop c.next.ensures.reads in
     stream_stops c.args.task.now bytes _ _ at_blocks has _ _ _ _ _ c.loop-update.seats _ fault so
     reads)
 
@@ -153,13 +151,9 @@ loop-update-preserved g c =
           ) at c.pass_on_all.ensures.talks in
           λ k less.
           let so = c.loop-update.invariant.underway bytes at_blocks all has k less in
-          let reads = rw (
-            c.loop-update.invariant.depth,
-            c.loop-update.invariant.form,
-            c.in_ok-update.ensures,
-            c.in-Some.is,
-          ) at (c.next.ensures.reads so.stream so.rest
-          so.after so.to_come) in
+          let reads = reads_on c.args.task.now bytes at_blocks _ (g.A.Source.left c.next.new.source) _ _ _ _ _ so _ _
+          c.loop-update.invariant.depth c.loop-update.invariant.form
+          (c.in_ok-update.ensures ∙ ap (λ (n : Option Update). Ok n) c.in-Some.is) c.next.ensures.reads in
           let after = rw (c.in_ok-update.ensures, c.in-Some.is) at (c.next.ensures.after so.stream
           so.after) in
           heard_more task bytes _ _ at_blocks has _ _ _ _ _ _ _ _ _ _ _ _ _ _ c.in-Some.update _ so
@@ -203,13 +197,9 @@ returns-in_err-on_link-2-clause-hears g c = λ bytes at_blocks all has.
     let said = rw (stop, c.loop-update.invariant.version) at c.pass_on_all.ensures.talks in
     rw (p.1, p.2, is) (λ k less.
     let so = c.loop-update.invariant.underway bytes at_blocks all has k less in
-    let reads = rw (
-      c.loop-update.invariant.depth,
-      c.loop-update.invariant.form,
-      c.in_ok-update.ensures,
-      c.in-Some.is,
-    ) at (c.next.ensures.reads so.stream so.rest so.after
-    so.to_come) in
+    let reads = reads_on c.args.task.now bytes at_blocks _ (g.A.Source.left c.next.new.source) _ _ _ _ _ so _ _
+    c.loop-update.invariant.depth c.loop-update.invariant.form
+    (c.in_ok-update.ensures ∙ ap (λ (n : Option Update). Ok n) c.in-Some.is) c.next.ensures.reads in
     link_stops c.args.task.now bytes at_blocks (g.A.Source.left c.next.new.source)
     c.pass_on_all.new.seats _ _ c.pass_on_all.result port stop c.pass_on_all.ensures.cause
     (part_after c.args.task.now bytes _ _ at_blocks has _ _ _ _ _ _ _ so c.in-Some.update port reads
@@ -229,13 +219,9 @@ returns-clause-hears g c = λ bytes at_blocks all has.
     at c.finish_all.ensures.talks in
     λ k less.
     let so = c.loop-update.invariant.underway bytes at_blocks all has k less in
-    let reads = rw (
-      c.loop-update.invariant.depth,
-      c.loop-update.invariant.form,
-      c.in_ok-update.ensures,
-      c.in_default.is,
-    ) at (c.next.ensures.reads so.stream so.rest so.after
-    so.to_come) in
+    let reads = reads_on c.args.task.now bytes at_blocks _ (g.A.Source.left c.next.new.source) _ _ _ _ _ so _ _
+    c.loop-update.invariant.depth c.loop-update.invariant.form
+    (c.in_ok-update.ensures ∙ ap (λ (n : Option Update). Ok n) c.in_default.is) c.next.ensures.reads in
     let stand = rw c.waiting.ensures at (c.update_all.ensures.stands _ _ _ so.said.sent so.stand) in
     on_end c.args.task.now bytes _ _ at_blocks has _ _ _ _ _ _ _ so _ reads
     (said k (within (λ x. x.kept.talk.items) c.args.links.now c.loop-update.links k
@@ -249,13 +235,9 @@ returns-in_err-on_link-3-clause-hears g c = λ bytes at_blocks all has.
     let said = rw (c.version-version.ensures, stop) at c.finish_all.ensures.talks in
     rw (p.1, p.2, is) (λ k less.
     let so = c.loop-update.invariant.underway bytes at_blocks all has k less in
-    let reads = rw (
-      c.loop-update.invariant.depth,
-      c.loop-update.invariant.form,
-      c.in_ok-update.ensures,
-      c.in_default.is,
-    ) at (c.next.ensures.reads so.stream so.rest so.after
-    so.to_come) in
+    let reads = reads_on c.args.task.now bytes at_blocks _ (g.A.Source.left c.next.new.source) _ _ _ _ _ so _ _
+    c.loop-update.invariant.depth c.loop-update.invariant.form
+    (c.in_ok-update.ensures ∙ ap (λ (n : Option Update). Ok n) c.in_default.is) c.next.ensures.reads in
     let stand = rw c.waiting.ensures at (c.update_all.ensures.stands _ _ _ so.said.sent so.stand) in
     link_stops c.args.task.now bytes at_blocks (g.A.Source.left c.next.new.source)
     c.update_all.new.self _ _ c.finish_all.result port stop c.finish_all.ensures.cause
@@ -280,13 +262,9 @@ returns-clause-weights g c = λ some bytes all.
     let heard : 0 < length (talks_of c.args.links.now) =
     omega (arith, length-map c.args.links.now (λ l. l.kept.talk.items), some) in
     let so = c.loop-update.invariant.underway bytes at all has 0 heard in
-    let reads = rw (
-      c.loop-update.invariant.depth,
-      c.loop-update.invariant.form,
-      c.in_ok-update.ensures,
-      c.in_default.is,
-    ) at (c.next.ensures.reads so.stream so.rest so.after
-    so.to_come) in
+    let reads = reads_on c.args.task.now bytes at _ (g.A.Source.left c.next.new.source) _ _ _ _ _ so _ _
+    c.loop-update.invariant.depth c.loop-update.invariant.form
+    (c.in_ok-update.ensures ∙ ap (λ (n : Option Update). Ok n) c.in_default.is) c.next.ensures.reads in
     let after = rw (c.in_ok-update.ensures, c.in_default.is) at (c.next.ensures.after so.stream
     so.after) in
     weighed c.args.task.now bytes _ _ at has _ _ _ _ _ _ so reads c.next.new.self after _

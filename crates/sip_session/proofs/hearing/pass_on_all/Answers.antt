@@ -4,9 +4,8 @@ use Rattle.std.proofs.lemmas.Result.{err_from_is_err_and}
 use Rattle.sip_vector.specs.declared.update.Side.{Side}
 use Rattle.sip_vector.specs.declared.update.Update.{Update}
 use Rattle.sip_verifier.specs.QuerySeats.{HaveRoom}
-use Rattle.sip_verifier.specs.Seats.{AreSeats}
 use Rattle.sip_session.specs.Links.{talks_of}
-use Rattle.sip_session.proofs.Heard.{all_nothing, all_same, due_full, due_nothing, taken_full}
+use Rattle.sip_session.proofs.Heard.{all_nothing, all_same, due_full, due_nothing, seats_took}
 use Rattle.sip_session.proofs.LinkLemmas.{links_stay}
 use Rattle.sip_session.proofs.hearing.pass_on_all.Goals as goal
 
@@ -37,13 +36,10 @@ returns-in_err-copy_all-clause-talks g c =
 
 pub returns-in_err-copy_all-clause-stands : goal.returns-in_err-copy_all-clause-stands
 returns-in_err-copy_all-clause-stands g c = λ depth queries blocks stream are.
-    let waiting = c.args.feed.now.waiting in
-    let u = c.args.update.now in
-    let filled : length c.push.new.self.waiting ≡ 512 = search rules in
-    let block : c.waiting.result.now ≡ waiting ++ u ∷ [] = search rules in
-    let taken = taken_full waiting u (sym (ap length c.push.ensures.waiting) ∙ filled) in
-    subst (λ l. AreSeats depth queries blocks (stream ++ l) c.update_all.new.self) (block
-    ∙ sym taken) (c.update_all.ensures.stands depth queries blocks stream are)
+    seats_took c.args.feed.now.waiting c.args.update.now c.push.new.self.waiting
+    c.waiting.result.now depth queries blocks stream c.update_all.new.self
+    c.push.ensures.waiting (search rules) (search rules)
+    (c.update_all.ensures.stands depth queries blocks stream are)
 
 pub returns-clause-talks : goal.returns-clause-talks
 returns-clause-talks g c =
@@ -61,13 +57,10 @@ returns-clause-talks g c =
 
 pub returns-clause-stands : goal.returns-clause-stands
 returns-clause-stands g c = λ depth queries blocks stream are.
-    let waiting = c.args.feed.now.waiting in
-    let u = c.args.update.now in
-    let filled : length c.push.new.self.waiting ≡ 512 = search rules in
-    let block : c.waiting.result.now ≡ waiting ++ u ∷ [] = search rules in
-    let taken = taken_full waiting u (sym (ap length c.push.ensures.waiting) ∙ filled) in
-    subst (λ l. AreSeats depth queries blocks (stream ++ l) c.update_all.new.self) (block
-    ∙ sym taken) (c.update_all.ensures.stands depth queries blocks stream are)
+    seats_took c.args.feed.now.waiting c.args.update.now c.push.new.self.waiting
+    c.waiting.result.now depth queries blocks stream c.update_all.new.self
+    c.push.ensures.waiting (search rules) (search rules)
+    (c.update_all.ensures.stands depth queries blocks stream are)
 
 pub update_all-requires-clause-room : goal.update_all-requires-clause-room
 update_all-requires-clause-room g c =

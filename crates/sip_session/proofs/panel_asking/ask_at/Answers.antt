@@ -32,8 +32,7 @@ returns-in-Answered-clause-leads g c = λ stream asks old blank stand given size
     let h = length c.args.links.now in
     let at = c.args.at in
     let next = rw c.left.ensures at c.skip_seats.ensures.next in
-    let same : c.ask_helper.result ≡ Ok cames.Answered = c.in_ok-ask_helper.was ∙ ap (λ (v : Came). Ok v) c.in-Answered.is in
-    let t = seat_tried stream asks s c.skip_seats.new.session h c.args.queries at.gone at.asked _ _ _ _ c.ask_helper.result _ c.requires.gone c.requires.asked c.requires.left next c.skip_seats.ensures.version c.skip_seats.ensures.depth stand given same (c.ask_helper.ensures.tries stream) in
+    let t = seat_tried stream asks s c.skip_seats.new.session h c.args.queries at.gone at.asked _ _ _ _ c.ask_helper.result _ c.requires.gone c.requires.asked c.requires.left next c.skip_seats.ensures.version c.skip_seats.ensures.depth stand given (c.in_ok-ask_helper.was ∙ ap (λ (v : Came). Ok v) c.in-Answered.is) (c.ask_helper.ensures.tries stream) in
     rw (add-one at.asked) (asked_answered (λ l. l.kept.talk.items) s.version s.depth stream h c.args.queries asks old c.args.links.now blank _ _ at.gone at.asked to size refl c.requires.gone c.requires.asked t.0 t.1 c.ask_helper.new.link c.index-links-at.result t.2)
 
 pub returns-in-Answered-clause-next : goal.returns-in-Answered-clause-next
@@ -48,8 +47,7 @@ returns-then-at-helpers-clause-leads g c = λ stream asks old blank stand given 
     let h = length c.args.links.now in
     let at = c.args.at in
     let next = rw c.left.ensures at c.skip_seats.ensures.next in
-    let same : c.ask_helper.result ≡ Ok (cames.Dropped c.in-Dropped.round c.in-Dropped.reason) = c.in_ok-ask_helper.was ∙ ap (λ (v : Came). Ok v) c.in-Dropped.is in
-    let t = seat_tried stream asks s c.skip_seats.new.session h c.args.queries at.gone at.asked _ _ _ _ c.ask_helper.result _ c.requires.gone c.requires.asked c.requires.left next c.skip_seats.ensures.version c.skip_seats.ensures.depth stand given same (c.ask_helper.ensures.tries stream) in
+    let t = seat_tried stream asks s c.skip_seats.new.session h c.args.queries at.gone at.asked _ _ _ _ c.ask_helper.result _ c.requires.gone c.requires.asked c.requires.left next c.skip_seats.ensures.version c.skip_seats.ensures.depth stand given (c.in_ok-ask_helper.was ∙ ap (λ (v : Came). Ok v) c.in-Dropped.is) (c.ask_helper.ensures.tries stream) in
     rw (add-one at.asked) (asked_out (λ l. l.kept.talk.items) s.version s.depth stream h c.args.queries asks old c.args.links.now blank _ _ at.gone at.asked to size refl c.requires.gone c.requires.asked t.0 t.1 c.ask_helper.new.link c.index-links-at.result c.in-Dropped.round c.in-Dropped.reason t.2 (omega arith))
 
 pub returns-then-at-helpers-clause-next : goal.returns-then-at-helpers-clause-next
@@ -64,8 +62,7 @@ returns-else-at-helpers-clause-leads g c = λ stream asks old blank stand given 
     let h = length c.args.links.now in
     let at = c.args.at in
     let next = rw c.left.ensures at c.skip_seats.ensures.next in
-    let same : c.ask_helper.result ≡ Ok (cames.Dropped c.in-Dropped.round c.in-Dropped.reason) = c.in_ok-ask_helper.was ∙ ap (λ (v : Came). Ok v) c.in-Dropped.is in
-    let t = seat_tried stream asks s c.skip_seats.new.session h c.args.queries at.gone at.asked _ _ _ _ c.ask_helper.result _ c.requires.gone c.requires.asked c.requires.left next c.skip_seats.ensures.version c.skip_seats.ensures.depth stand given same (c.ask_helper.ensures.tries stream) in
+    let t = seat_tried stream asks s c.skip_seats.new.session h c.args.queries at.gone at.asked _ _ _ _ c.ask_helper.result _ c.requires.gone c.requires.asked c.requires.left next c.skip_seats.ensures.version c.skip_seats.ensures.depth stand given (c.in_ok-ask_helper.was ∙ ap (λ (v : Came). Ok v) c.in-Dropped.is) (c.ask_helper.ensures.tries stream) in
     rw (add-one at.gone) (asked_dropped (λ l. l.kept.talk.items) s.version s.depth stream h c.args.queries asks old c.args.links.now blank _ _ at.gone at.asked to size refl c.requires.gone c.requires.asked t.0 t.1 c.ask_helper.new.link c.index-links-at.result c.in-Dropped.round c.in-Dropped.reason t.2)
 
 pub returns-else-at-helpers-clause-next : goal.returns-else-at-helpers-clause-next

@@ -39,23 +39,17 @@ returns-in-Ok-clause-begins g c = λ bytes seed all told.
 
 pub by_query-requires-clause-counted : goal.by_query-requires-clause-counted
 by_query-requires-clause-counted g c =
-    let before =
-    counts (g.A.Source.faults c.args.first.now) (g.B.Source.faults c.args.second.now) 0 0 0 in
-    let now =
-    counts (g.A.Source.faults c.gather_all.new.first)
-    (g.B.Source.faults c.gather_all.new.second) 0 0 0 in
     begun_counted c.version.result c.gather_all.new.gathered c.in-Err.status c.in-Err.ensures
-    (stops_listed before now c.gather_all.new.gathered c.in_ok-gather_all.ensures.fault)
+    (stops_listed (g.A.Source.faults c.args.first.now) (g.A.Source.faults c.gather_all.new.first)
+    (g.B.Source.faults c.args.second.now) (g.B.Source.faults c.gather_all.new.second)
+    c.gather_all.new.gathered c.in_ok-gather_all.ensures.fault)
 
 pub returns-in-Err-clause-begins : goal.returns-in-Err-clause-begins
 returns-in-Err-clause-begins g c = λ bytes seed all told.
-    let before =
-    counts (g.A.Source.faults c.args.first.now) (g.B.Source.faults c.args.second.now) 0 0 0 in
-    let now =
-    counts (g.A.Source.faults c.gather_all.new.first)
-    (g.B.Source.faults c.gather_all.new.second) 0 0 0 in
     let listed =
-    stops_listed before now c.gather_all.new.gathered c.in_ok-gather_all.ensures.fault in
+    stops_listed (g.A.Source.faults c.args.first.now) (g.A.Source.faults c.gather_all.new.first)
+    (g.B.Source.faults c.args.second.now) (g.B.Source.faults c.gather_all.new.second)
+    c.gather_all.new.gathered c.in_ok-gather_all.ensures.fault in
     begun_named c.args.wide.now bytes seed (g.A.Source.left c.gather_all.new.first) _ _
     (length c.args.links.now) c.version.result c.gather_all.new.gathered c.in-Err.status _
     c.by_query.result c.gather_all.ensures.count c.by_query.ensures
@@ -86,13 +80,10 @@ returns-in-Ok-clause-negatives g c = λ bytes seed all told.
 
 pub returns-in-Err-clause-negatives : goal.returns-in-Err-clause-negatives
 returns-in-Err-clause-negatives g c = λ bytes seed all told.
-    let before =
-    counts (g.A.Source.faults c.args.first.now) (g.B.Source.faults c.args.second.now) 0 0 0 in
-    let now =
-    counts (g.A.Source.faults c.gather_all.new.first)
-    (g.B.Source.faults c.gather_all.new.second) 0 0 0 in
     let listed =
-    stops_listed before now c.gather_all.new.gathered c.in_ok-gather_all.ensures.fault in
+    stops_listed (g.A.Source.faults c.args.first.now) (g.A.Source.faults c.gather_all.new.first)
+    (g.B.Source.faults c.args.second.now) (g.B.Source.faults c.gather_all.new.second)
+    c.gather_all.new.gathered c.in_ok-gather_all.ensures.fault in
     rw c.by_query.ensures (begun_negatives (length c.gather_all.new.links) c.args.wide.now bytes
     c.version.result c.gather_all.new.gathered c.in-Err.status _ c.in-Err.ensures listed
     (c.in_ok-gather_all.ensures.negatives c.requires.some bytes seed all told))

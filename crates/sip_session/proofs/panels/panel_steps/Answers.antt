@@ -1,5 +1,5 @@
 -- At each end of the steps the facts of the calls before it are handed to the lemma of that end.
-use Rattle.std.proofs.Common.{◌≡◌, ◌<◌, [], Err, ap, subst, ◌∙◌, arith, length}
+use Rattle.std.proofs.Common.{◌≡◌, [], Err, ap, subst, ◌∙◌, length}
 use Rattle.std.proofs.lemmas.List.{length-map}
 use Rattle.std.proofs.lemmas.Result.{err_from_is_err_and}
 use Rattle.sip_ports.proofs.TalkLemmas.{GoesOn-refl}
@@ -12,14 +12,13 @@ use Rattle.sip_verifier.specs.Snapshots.{counts}
 use Rattle.sip_verifier.specs.Sittings.{Sitting}
 use Rattle.sip_verifier.proofs.RunNegatives.{of_gathered}
 use Rattle.sip_verifier.proofs.RunTalks.{nothing_reported, some_value, written_is}
-use Rattle.sip_verifier.proofs.SeatedBehind.{seats_left}
 use Rattle.sip_session.specs.Links.{talks_of}
 use Rattle.sip_session.specs.inside.Beginning.{Begins}
 use Rattle.sip_session.specs.inside.Hearing.{AllTalks}
 use Rattle.sip_session.proofs.Begun.{helpers_few, never_rose, task_bounds, wide_done}
 use Rattle.sip_session.proofs.PanelLinks.{told_asking, told_early, told_farewell}
-use Rattle.sip_session.proofs.PanelRuns.{asking_stops, beginning_stops, farewell_listed, halts_wrote, not_begun, panel_tells, said_farewell, stopped_asking, told_nothing}
-use Rattle.sip_session.proofs.Places.{told_length}
+use Rattle.sip_session.proofs.PanelRuns.{asking_stops, beginning_stops, farewell_listed, halts_wrote, left_stand, not_begun, panel_tells, said_farewell, stopped_asking, told_nothing}
+use Rattle.sip_session.proofs.Places.{told_length, told_some}
 use Rattle.sip_session.proofs.SeatNegatives.{of_seats}
 use Rattle.sip_session.proofs.Seats.{length-seats}
 use Rattle.sip_session.proofs.panels.panel_steps.Goals as goal
@@ -63,10 +62,7 @@ returns-in_err-gone-clause-keeps g c =
     let task = c.args.task.now in
     let (deep, most, room) = task_bounds (length c.args.links.now) task _ c.get-levels.ensures.same
     c.get-levels.ensures.some c.get-levels.ensures.most c.requires.some c.requires.few in
-    let old : AllTalks = talks_of c.args.links.now in
-    let mid : AllTalks = talks_of c.begin.new.links in
-    let some : 0 < length old =
-    omega (arith, length-map c.args.links.now (λ l. l.kept.talk.items), c.requires.some) in
+    let some = told_some (λ l. l.kept.talk.items) c.args.links.now c.requires.some in
     let lent = c.deref_mut.ensures.value in
     let p = err_from_is_err_and c.from_residual-in_err-gone.result
     c.from_residual-in_err-gone.ensures.1 in
@@ -80,35 +76,25 @@ returns-in_err-gone-clause-keeps g c =
           let (seats, heard, starts) =
           rw c.seats_task-wide.ensures at (c.in_ok-session.ensures.begins x.stream x.seed
           t.stream t.seed) in
-          let stand =
-          (seats_left _ _ _ (legal task x.stream) seats _ _ (heard.each 0 some).stand
-          starts).1 in
-          stopped_asking (length c.args.links.now) task c.requires.some c.requires.done deep most
-          room x _ _
-          _ t.unread old mid (length-map c.args.links.now (λ l. l.kept.talk.items))
-          (told_length (λ l. l.kept.talk.items) c.args.links.now c.begin.new.links
-          c.begin.ensures.count) (told_nothing (λ l. l.kept.talk.items) c.args.links.now
-          c.requires.new) seats heard c.in_ok-session.session.value starts
+          let stand = left_stand _ _ _ _ _ _ seats _ some heard starts in
+          stopped_asking (λ l. l.kept.talk.items) c.args.links.now c.begin.new.links
+          c.begin.ensures.count c.requires.new task c.requires.some c.requires.done deep most room
+          x _ _ _ t.unread seats heard c.in_ok-session.session.value starts
           (g.K.Sink.talk c.args.report.now) (g.K.Sink.talk c.ask_all.new.report)
           (λ bytes went. written_is _ _ bytes x.report went t.report) c.len-queries.result
-          c.len-queries.ensures.value
-          (talks_of c.ask_all.new.links) t.talks
-          (told_length (λ l. l.kept.talk.items) c.begin.new.links c.ask_all.new.links
-          c.ask_all.ensures.count) c.in_err-gone.field-0.0
+          c.len-queries.ensures.value c.ask_all.new.links c.ask_all.ensures.count t.talks
+          c.in_err-gone.field-0.0
           (rw (lent, c.begin.ensures.count)
           at (c.in_err-gone.ensures.trails (legal task x.stream) (rw lent stand))) stops.0;
       moves = λ told.
           let bytes = some_value _ told.first in
-          let seed = some_value _ told.second in
           let (seats, heard, starts) =
-          rw c.seats_task-wide.ensures at (c.in_ok-session.ensures.begins bytes.0 seed.0
-          bytes.1 seed.1) in
-          let stand =
-          (seats_left _ _ _ (legal task bytes.0) seats _ _ (heard.each 0 some).stand
-          starts).1 in
+          rw c.seats_task-wide.ensures at (c.in_ok-session.ensures.begins bytes.0 _ bytes.1
+          (some_value _ told.second).1) in
           let wrote =
           halts_wrote _ _ _ _ _ _ _ _ _ _ c.in_err-gone.field-0.0
-          (c.in_err-gone.ensures.trails (legal task bytes.0) (rw lent stand)) in
+          (c.in_err-gone.ensures.trails (legal task bytes.0)
+          (rw lent (left_stand _ _ _ _ _ _ seats _ some heard starts))) in
           panel_tells _ _ told c.begin.ensures.told wrote.0 wrote.1;
       fault = stops.0;
       listed = stops.1;
@@ -119,10 +105,7 @@ returns-clause-keeps g c =
     let task = c.args.task.now in
     let (deep, most, room) = task_bounds (length c.args.links.now) task _ c.get-levels.ensures.same
     c.get-levels.ensures.some c.get-levels.ensures.most c.requires.some c.requires.few in
-    let old : AllTalks = talks_of c.args.links.now in
-    let mid : AllTalks = talks_of c.begin.new.links in
-    let some : 0 < length old =
-    omega (arith, length-map c.args.links.now (λ l. l.kept.talk.items), c.requires.some) in
+    let some = told_some (λ l. l.kept.talk.items) c.args.links.now c.requires.some in
     let lent = c.deref_mut.ensures.value in
     let before =
     counts (g.A.Source.faults c.args.first.now) (g.B.Source.faults c.args.second.now) 0
@@ -138,38 +121,25 @@ returns-clause-keeps g c =
           let (seats, heard, starts) =
           rw c.seats_task-wide.ensures at (c.in_ok-session.ensures.begins x.stream x.seed
           t.stream t.seed) in
-          let stand =
-          (seats_left _ _ _ (legal task x.stream) seats _ _ (heard.each 0 some).stand
-          starts).1 in
-          said_farewell (length c.args.links.now) task c.requires.some c.requires.done deep most
-          room x _ _ _
-          t.unread old mid (length-map c.args.links.now (λ l. l.kept.talk.items))
-          (told_length (λ l. l.kept.talk.items) c.args.links.now c.begin.new.links
-          c.begin.ensures.count) (told_nothing (λ l. l.kept.talk.items) c.args.links.now
-          c.requires.new) seats heard c.in_ok-session.session.value starts
+          let stand = left_stand _ _ _ _ _ _ seats _ some heard starts in
+          said_farewell (λ l. l.kept.talk.items) c.args.links.now c.begin.new.links
+          c.begin.ensures.count c.requires.new task c.requires.some c.requires.done deep most room
+          x _ _ _ t.unread seats heard c.in_ok-session.session.value starts
           (g.K.Sink.talk c.args.report.now) (g.K.Sink.talk c.ask_all.new.report)
           (λ bytes went. written_is _ _ bytes x.report went t.report) c.len-queries.result
-          c.len-queries.ensures.value
-          (talks_of c.ask_all.new.links)
-          (talks_of c.say_bye.new.links) t.talks
-          (told_length (λ l. l.kept.talk.items) c.begin.new.links c.ask_all.new.links
-          c.ask_all.ensures.count)
-          (told_length (λ l. l.kept.talk.items) c.ask_all.new.links c.say_bye.new.links
-          c.say_bye.ensures.count) c.in_ok-gone.gone
+          c.len-queries.ensures.value c.ask_all.new.links c.say_bye.new.links
+          c.ask_all.ensures.count c.say_bye.ensures.count t.talks c.in_ok-gone.gone
           (rw (lent, c.begin.ensures.count)
           at (c.in_ok-gone.ensures.trails (legal task x.stream) (rw lent stand)))
           c.say_bye.result c.on_link.result c.on_link.ensures c.say_bye.ensures.cause
           (λ k less. rw c.version.ensures at (c.say_bye.ensures.talks k less));
       moves = λ told.
           let bytes = some_value _ told.first in
-          let seed = some_value _ told.second in
           let (seats, heard, starts) =
-          rw c.seats_task-wide.ensures at (c.in_ok-session.ensures.begins bytes.0 seed.0
-          bytes.1 seed.1) in
-          let stand =
-          (seats_left _ _ _ (legal task bytes.0) seats _ _ (heard.each 0 some).stand
-          starts).1 in
-          let trails = c.in_ok-gone.ensures.trails (legal task bytes.0) (rw lent stand) in
+          rw c.seats_task-wide.ensures at (c.in_ok-session.ensures.begins bytes.0 _ bytes.1
+          (some_value _ told.second).1) in
+          let trails = c.in_ok-gone.ensures.trails (legal task bytes.0)
+          (rw lent (left_stand _ _ _ _ _ _ seats _ some heard starts)) in
           panel_tells _ _ told c.begin.ensures.told _ trails.trail.report;
       fault = ends.0;
       listed = ends.1;
