@@ -1,6 +1,6 @@
 -- What was loaded, said, stored and written, by the step at which a call ended.
-use Rattle.std.proofs.Common.{◌≡◌, ◌⊎◌, ℕ, List, [], ◌∷◌, ◌++◌, Option, inl, inr, refl, sym, ap, subst, ◌∙◌, append_assoc, append-nil}
-use Rattle.std.specs.Prelude.{⊤, Some, Result, Ok, Err}
+use Rattle.std.proofs.Common.{◌≡◌, ℕ, List, [], ◌∷◌, ◌++◌, Option, inl, inr, refl, sym, subst, append_assoc, append-nil}
+use Rattle.std.specs.Prelude.{Some, Result, Ok, Err}
 use Rattle.sip_ports.specs.Desk.{Loads}
 use Rattle.sip_ports.specs.Ports.{GoesOn, ins}
 use Rattle.sip_ports.specs.declared.port.TalkEvent.{TalkEvent}
@@ -12,15 +12,14 @@ use Rattle.sip_questions.specs.Questions.{asking, version_for}
 use Rattle.sip_questions.specs.declared.question.Question.{Question}
 use Rattle.sip_sketch.specs.Sketches.{IsSketch, SketchValues, spelled_file}
 use Rattle.sip_sketch.specs.Standing.{Stands}
-use Rattle.sip_ask.specs.Asking.{Asks, AsksAll, IsBadHeld, IsClosed, IsCutOpening, IsInTalk, IsLoaded, IsOutOfStep, Opens, StoresFirst, as_result}
+use Rattle.sip_ask.specs.Asking.{Asks, AsksAll, IsBadHeld, IsClosed, IsCutOpening, IsInTalk, IsOutOfStep, Opens, StoresFirst, as_result}
 use Rattle.sip_ask.specs.Causes.{HasRisen, IsStop}
 use Rattle.sip_ask.specs.Choosing.{choice}
 use Rattle.sip_ask.specs.Turns.{held_by, held_heard, recall_sent}
-use Rattle.sip_ask.specs.inside.Opening.{HearsBehind, HearsFront, HearsOther, IsCutShort, OpensWith}
+use Rattle.sip_ask.specs.inside.Opening.{HearsFront, IsCutShort, OpensWith}
 use Rattle.sip_ask.specs.inside.Steps.{LoadsSketch, status_of}
 use Rattle.sip_ask.specs.declared.status.AskStatus.{AskStatus}
 use Rattle.sip_ask.specs.declared.status.AskStatus.TheVariants as statuses
-use Rattle.sip_ask.specs.declared.status.AskPort.TheVariants as ports
 use Rattle.sip_ask.proofs.Refusing.{IsRefusal, choice-refuses}
 
 -- ---- no step that ends so is another's

@@ -1,12 +1,11 @@
 -- The promises of questions hold of a call that asks a sketch.
-use Rattle.std.proofs.Common.{◌≡◌, ◌⊎◌, ℕ, zero, suc, ◌+◌, ◌-◌, false, ◌^◌, ◌<◌, ◌≤◌, List, [], ◌∷◌, ◌++◌, length, map, drop, take, flat_map, replicate, get_or, All, Option, Some, None, inl, inr, refl, sym, ap, subst, ◌∙◌, append_assoc, append-nil, arith}
-use Rattle.std.specs.Prelude.{Result, Ok, Err}
+use Rattle.std.proofs.Common.{◌≡◌, ◌⊎◌, ℕ, ◌-◌, false, ◌<◌, ◌≤◌, List, [], ◌∷◌, ◌++◌, length, map, take, flat_map, get_or, All, Option, Some, None, inl, inr, refl, sym, ap, subst, ◌∙◌, append_assoc, append-nil, arith}
+use Rattle.std.specs.Prelude.{Ok, Err}
 use Rattle.std.specs.List.{AllZip}
 use Rattle.std.proofs.lemmas.List.{append_cancel_left, length-map, length-replicate, take-map}
-use Rattle.std.proofs.lemmas.List.Elements.{All-cons, All-get_or, All-head, All-map, All-nil, All-replicate, All-tail}
+use Rattle.std.proofs.lemmas.List.Elements.{All-cons, All-get_or, All-head, All-nil, All-replicate, All-tail}
 use Rattle.sip_field.specs.Moduli.{m61_modulus}
 use Rattle.sip_ports.specs.Ports.{GoesOn, outs}
-use Rattle.sip_ports.specs.declared.port.PortStop.{PortStop}
 use Rattle.sip_ports.specs.declared.port.PortStop.TheVariants as port_stops
 use Rattle.sip_ports.specs.declared.port.TalkEvent.{TalkEvent}
 use Rattle.sip_ports.specs.declared.port.TalkEvent.TheVariants.{Out}
@@ -17,7 +16,7 @@ use Rattle.sip_vector.specs.Tallies.{tally}
 use Rattle.sip_vector.specs.declared.tally.Tally.{Tally}
 use Rattle.sip_vector.specs.declared.update.Update.{Update}
 use Rattle.sip_wire.specs.declared.version.Version.{Version}
-use Rattle.sip_stream.specs.Records.{Records, records}
+use Rattle.sip_stream.specs.Records.{Records}
 use Rattle.sip_stream.specs.declared.form.Form.{Form}
 use Rattle.sip_stream.proofs.Cuts.{cut-cons, cut-nil}
 use Rattle.sip_verifier.specs.Exchanges.{Exchange}
@@ -31,13 +30,11 @@ use Rattle.sip_verifier.specs.runs.Concluding.{Ended}
 use Rattle.sip_verifier.specs.runs.Manners.{Accepted, Manner, Question as PosedBy}
 use Rattle.sip_verifier.specs.runs.Progress.{EndsWith, PassedBy}
 use Rattle.sip_verifier.specs.runs.Runs.{AreQuestions, IsLegalToEnd, Run, farewell, lines, manner, questions_of, updates}
-use Rattle.sip_verifier.proofs.QueriesChecked.{none_passed}
 use Rattle.sip_verifier.proofs.QueryPromises.{Came, after_queries, at_bye, came}
 use Rattle.sip_questions.specs.LawProofs.Waiting.{waits_lawful}
 use Rattle.sip_questions.specs.Promises.{CanRun, IsWhole, QuestionClauses}
 use Rattle.sip_questions.specs.Questions.{Answered, asking, first_refusal, version_for}
 use Rattle.sip_questions.specs.declared.question.Question.{Question}
-use Rattle.sip_sketch.specs.Fields.{IsValue}
 use Rattle.sip_sketch.specs.Sketches.{IsSketch, SeatValues, SketchValues, element}
 use Rattle.sip_sketch.specs.Standing.{Stands}
 use Rattle.sip_sketch.specs.declared.kind.SeatKind.TheVariants as kinds
@@ -51,7 +48,7 @@ use Rattle.sip_ask.specs.inside.Seating.{IsTested, Takes}
 use Rattle.sip_ask.specs.declared.status.AskPort.TheVariants as ports
 use Rattle.sip_ask.specs.declared.status.AskStatus.{AskStatus}
 use Rattle.sip_ask.specs.declared.status.AskStatus.TheVariants as statuses
-use Rattle.sip_ask.proofs.AskPromises.{Between, CutBye, Ends, SaidBye, Stopped, ends-of}
+use Rattle.sip_ask.proofs.AskPromises.{Ends, SaidBye, Stopped, ends-of}
 use Rattle.sip_ask.proofs.Chosen.{block-at, chosen-is}
 use Rattle.sip_ask.proofs.LinkTalks.{link-append, link-same, linked, linked-goes}
 use Rattle.sip_ask.proofs.Served.{fit-pose, sketch-shallow, sketch-some}

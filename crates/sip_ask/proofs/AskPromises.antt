@@ -1,42 +1,29 @@
 -- A call that asks questions of a sketch keeps the promises of a run of questions over each stream that the sketch stands for.
-use Rattle.std.proofs.Common.{◌≡◌, ◌≢◌, ◌⊎◌, ℕ, zero, suc, ◌+◌, ◌-◌, ◌*◌, ◌^◌, ◌<◌, ◌≤◌, Bool, true, false, List, [], ◌∷◌, ◌++◌, length, map, drop, take, flat_map, get_or, replicate, All, Option, Some, None, inl, inr, refl, sym, ap, subst, ◌∙◌, append_assoc, append-nil, arith}
-use Rattle.std.specs.Prelude.{Result, Ok, Err, IsTrue}
+use Rattle.std.proofs.Common.{◌≡◌, ◌⊎◌, ℕ, zero, suc, ◌+◌, ◌^◌, ◌<◌, true, List, [], ◌∷◌, ◌++◌, length, map, drop, take, All, Option, Some, None, inl, inr, refl, sym, ap, subst, ◌∙◌, append-nil, arith}
+use Rattle.std.specs.Prelude.{Result, Ok, Err}
 use Rattle.std.specs.List.{AllZip}
-use Rattle.std.proofs.lemmas.List.{append_cancel_left, drop-drop, length-append, length-map, take-map}
-use Rattle.std.proofs.lemmas.List.Elements.{All-cons, All-head, All-nil, All-replicate, All-tail}
-use Rattle.sip_field.specs.Moduli.{m61_modulus}
-use Rattle.sip_ports.specs.Desk.{steps}
+use Rattle.std.proofs.lemmas.List.{drop-drop}
+use Rattle.std.proofs.lemmas.List.Elements.{All-head, All-tail}
 use Rattle.sip_ports.specs.Ports.{GoesOn, outs}
-use Rattle.sip_ports.specs.declared.port.PortStop.{PortStop}
-use Rattle.sip_ports.specs.declared.port.PortStop.TheVariants as port_stops
 use Rattle.sip_ports.specs.declared.port.TalkEvent.{TalkEvent}
-use Rattle.sip_ports.proofs.DeskLemmas.{IsOfLink-outs}
-use Rattle.sip_ports.proofs.TalkLemmas.{GoesOn-nothing, GoesOn-told, outs-injective}
+use Rattle.sip_ports.proofs.TalkLemmas.{GoesOn-nothing, GoesOn-told}
 use Rattle.sip_vector.specs.Answers.{pairs}
-use Rattle.sip_vector.specs.Pieces.{cut}
 use Rattle.sip_vector.specs.declared.update.Update.{Update}
 use Rattle.sip_vector.specs.Tallies.{tally}
 use Rattle.sip_vector.specs.declared.tally.Tally.{Tally}
 use Rattle.sip_wire.specs.declared.version.Version.{Version}
-use Rattle.sip_stream.specs.Records.{records}
-use Rattle.sip_stream.specs.declared.form.Form.{Form}
 use Rattle.sip_replies.specs.Talks.{IsPrefix}
-use Rattle.sip_verifier.specs.Exchanges.{Exchange}
-use Rattle.sip_verifier.specs.Snapshots.{Counts}
-use Rattle.sip_verifier.specs.Statuses.{FaultClause}
-use Rattle.sip_verifier.specs.Talks.{bye_sent, stream_sent}
+use Rattle.sip_verifier.specs.Talks.{bye_sent}
 use Rattle.sip_verifier.specs.declared.status.Port.TheVariants as run_ports
 use Rattle.sip_verifier.specs.declared.status.Status.{Status}
 use Rattle.sip_verifier.specs.declared.status.Status.TheVariants as runs
 use Rattle.sip_verifier.specs.runs.Asking.{question_of}
-use Rattle.sip_verifier.specs.runs.Concluding.{Ended}
 use Rattle.sip_verifier.specs.runs.Manners.{Manner}
 use Rattle.sip_verifier.specs.runs.Progress.{Checks, EndsWith, Passes, PassesInPart, PassedBy}
-use Rattle.sip_verifier.specs.runs.Runs.{Run, manner, updates, IsLegalToEnd}
 use Rattle.sip_verifier.proofs.QueriesChecked.{ends_with, none_passed, passed_more}
-use Rattle.sip_questions.specs.Questions.{Answered, asking, to_query, version_for}
+use Rattle.sip_questions.specs.Questions.{Answered, asking, to_query}
 use Rattle.sip_questions.specs.declared.question.Question.{Question}
-use Rattle.sip_sketch.specs.Sketches.{IsSketch, SeatValues, SketchValues, spelled_file}
+use Rattle.sip_sketch.specs.Sketches.{SeatValues, SketchValues, spelled_file}
 use Rattle.sip_ask.specs.Asking.{AsksAll, Came, IsAskedOn, SaysBye, marked_by, steps_of}
 use Rattle.sip_ask.specs.Choosing.{is_idle}
 use Rattle.sip_ask.specs.Marking.{mark, used_at}
@@ -46,7 +33,7 @@ use Rattle.sip_ask.specs.inside.Seating.{IsTested, Takes}
 use Rattle.sip_ask.specs.declared.status.AskPort.TheVariants as ports
 use Rattle.sip_ask.specs.declared.status.AskStatus.{AskStatus}
 use Rattle.sip_ask.specs.declared.status.AskStatus.TheVariants as statuses
-use Rattle.sip_ask.proofs.LinkTalks.{checks-linked, link-append, link-front, link-same, link-steps, linked, linked-goes}
+use Rattle.sip_ask.proofs.LinkTalks.{checks-linked, link-append, link-front, link-steps, linked, linked-goes}
 use Rattle.sip_ask.proofs.Unsigned.{AnswersNone, idle-none}
 
 -- ---- blocks

@@ -1,11 +1,11 @@
 -- What a call did that asks questions is a run over the file of its sketch.
-use Rattle.std.proofs.Common.{◌≡◌, ◌⊎◌, ℕ, zero, suc, ◌+◌, ◌-◌, ◌*◌, ◌<◌, ◌≤◌, List, [], ◌∷◌, ◌++◌, length, take, flat_map, Option, Some, None, inl, inr, refl, sym, ap, subst, ◌∙◌, append_assoc, append-nil, take_all, arith}
+use Rattle.std.proofs.Common.{◌≡◌, ℕ, ◌+◌, ◌-◌, ◌<◌, List, [], ◌∷◌, ◌++◌, length, take, flat_map, Option, Some, None, inl, inr, refl, sym, ap, subst, ◌∙◌, append_assoc, append-nil, take_all, arith}
 use Rattle.std.specs.Prelude.{Contains}
 use Rattle.std.proofs.lemmas.Bool.{cases_lt}
 use Rattle.std.proofs.lemmas.List.{length-take-le, take_at}
 use Rattle.std.proofs.lemmas.List.Elements.{All-nil}
 use Rattle.sip_ports.specs.Desk.{IsOfLink, Loads, holds_now, loaded, may_hold}
-use Rattle.sip_ports.specs.Ports.{GoesOn, ins, outs, written}
+use Rattle.sip_ports.specs.Ports.{GoesOn, ins, written}
 use Rattle.sip_ports.specs.declared.desk.TheConstants.{LONGEST_LOAD}
 use Rattle.sip_ports.specs.declared.port.TalkEvent.{TalkEvent}
 use Rattle.sip_ports.specs.declared.port.TalkEvent.TheVariants.{Ended}
@@ -20,9 +20,9 @@ use Rattle.sip_verifier.proofs.TalksOfLink.{prefix_of_link}
 use Rattle.sip_questions.specs.Questions.{version_for}
 use Rattle.sip_questions.specs.declared.question.Question.{Question}
 use Rattle.sip_sketch.specs.Sketches.{IsSketch, SketchValues, spelled_file}
-use Rattle.sip_ask.specs.Asking.{Asks, IsCutOpening, IsInTalk, IsStored, IsStoredInPart, Opens, StoresFirst, steps_of}
+use Rattle.sip_ask.specs.Asking.{Asks, IsCutOpening, IsInTalk, Opens, StoresFirst, steps_of}
 use Rattle.sip_ask.specs.Marking.{mark}
-use Rattle.sip_ask.specs.Runs.{Follows, IsDeed, IsRun, Run, asks, events_came, stores}
+use Rattle.sip_ask.specs.Runs.{Follows, IsRun, Run, asks, events_came, stores}
 use Rattle.sip_ask.specs.Turns.{AreTurns, IsFarewell, IsOpening, Turn, held_by, held_heard, recall_bytes, recall_sent, turn_events}
 use Rattle.sip_ask.specs.declared.status.AskStatus.{AskStatus}
 use Rattle.sip_ask.specs.declared.status.AskStatus.TheVariants as statuses
@@ -150,8 +150,7 @@ module _ (start : Option (List ℕ)) (talk : List TalkEvent) (new : Option (List
       -- the talk was opened, or a front of that
       opened-run : (events : List TalkEvent) → IsOpening version s events → GoesOn (Some talk) new events → IsARun
       opened-run events opening goes =
-          let all : take (length events) (events ++ ([] ++ [])) ≡ events = take_at events ([] ++ []) (length events) refl in
-          (
+          let all : take (length events) (events ++ ([] ++ [])) ≡ events = take_at events ([] ++ []) (length events) refl in (
             record { loaded = Some (spelled_file s); deed = asks events [] []; count = length events },
             (held-whole, (s, version, is, refl, opening, tt, no-farewell version)),
             subst (GoesOn (Some talk) new) (sym all) goes,
@@ -189,8 +188,7 @@ module _ (start : Option (List ℕ)) (talk : List TalkEvent) (new : Option (List
           let opening = recall ++ held_heard version held in
           let told = GoesOn-told talk mid opening goes in
           let came = turns-came version s places (talk ++ opening) new free
-          (subst (λ (m : Option (List TalkEvent)). StoresFirst version s places m new) told first) in
-          (
+          (subst (λ (m : Option (List TalkEvent)). StoresFirst version s places m new) told first) in (
             record { loaded = Some (spelled_file s); deed = asks opening came.turns came.behind; count = length opening + came.count },
             (held-whole, (s, version, is, refl, heard-opening (spelling version (messages.Held held)), came.are, came.farewell)),
             goes-behind talk opening (flat_map turn_events came.turns ++ came.behind) new came.count came.goes,

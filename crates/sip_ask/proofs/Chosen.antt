@@ -15,8 +15,8 @@ use Rattle.sip_questions.specs.declared.question.Question.{Question}
 use Rattle.sip_ask.specs.Asking.{marked_by}
 use Rattle.sip_ask.specs.Choosing.{all_pass, choice, fits, fits_at, free_from, is_free, is_high_of, is_idle, is_place, is_signed, is_wide_of, kind_for, seat_for, seats_for, small_at}
 use Rattle.sip_ask.specs.Turns.{block_at}
-use Rattle.sip_ask.specs.Marking.{is_used_at, mark, used_at}
-use Rattle.sip_ask.specs.inside.Seating.{IsSeat, IsTested, Serves, Takes}
+use Rattle.sip_ask.specs.Marking.{is_used_at, used_at}
+use Rattle.sip_ask.specs.inside.Seating.{IsTested, Serves, Takes}
 use Rattle.sip_ask.specs.inside.Steps.{asks_at}
 use Rattle.sip_ask.specs.declared.status.AskStatus.{AskStatus}
 use Rattle.sip_ask.specs.declared.status.AskStatus.TheVariants as statuses

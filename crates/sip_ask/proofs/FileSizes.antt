@@ -1,5 +1,5 @@
 -- How many bytes the file of a sketch has.
-use Rattle.std.proofs.Common.{◌≡◌, ℕ, zero, suc, ◌+◌, ◌-◌, ◌*◌, ◌^◌, ◌<◌, ◌≤◌, List, [], ◌∷◌, ◌++◌, flat_map, length, All, refl, sym, ap, subst, ◌∙◌, append_assoc, arith}
+use Rattle.std.proofs.Common.{◌≡◌, ℕ, suc, ◌+◌, ◌-◌, ◌*◌, ◌^◌, ◌<◌, ◌≤◌, List, [], ◌∷◌, ◌++◌, flat_map, length, All, refl, sym, ap, ◌∙◌, append_assoc, arith}
 use Rattle.std.specs.Int.{byte_len, from_bool}
 use Rattle.std.proofs.lemmas.List.{length-append}
 use Rattle.std.proofs.lemmas.List.Elements.{All-head, All-tail}
@@ -10,10 +10,10 @@ use Rattle.sip_ports.specs.declared.desk.TheConstants.{LONGEST_LOAD}
 use Rattle.sip_vector.specs.Limits.{most_depth}
 use Rattle.sip_vector.specs.Streams.{most_weight}
 use Rattle.sip_vector.specs.declared.tally.Tally.{Tally}
-use Rattle.sip_sketch.specs.Fields.{Field, Fields, digest, one, spelled, spelled_behind, width_of}
-use Rattle.sip_sketch.specs.Sketches.{IsSketch, SeatValues, SketchValues, bits_of, byte, code_of, element, elements, long, most_seats, negatives_field, seat_fields, seat_numbers, seats_fields, second_of, size_of, spelled_file, word}
+use Rattle.sip_sketch.specs.Fields.{Field, Fields, spelled, spelled_behind, width_of}
+use Rattle.sip_sketch.specs.Sketches.{IsSketch, SeatValues, SketchValues, bits_of, byte, code_of, element, elements, long, most_seats, negatives_field, seat_numbers, seats_fields, second_of, size_of, spelled_file, word}
 use Rattle.sip_sketch.proofs.Putting.{second_size}
-use Rattle.sip_sketch.proofs.SeatFields.{after_block, after_first}
+use Rattle.sip_sketch.proofs.SeatFields.{after_block}
 use Rattle.sip_sketch.proofs.Values.{spelled_size}
 use Rattle.sip_sketch.proofs.Whole.{few_seats}
 use Rattle.sip_ask.proofs.Served.{sketch-deep}

@@ -1,8 +1,8 @@
 -- A talk without what is done to the file: what came of a question is seen in it as well.
-use Rattle.std.proofs.Common.{◌≡◌, ◌⊎◌, ℕ, zero, suc, Bool, true, false, cond, List, [], ◌∷◌, ◌++◌, map, flat_map, take, Option, Some, None, inl, inr, refl, sym, ap, subst, ◌∙◌}
-use Rattle.std.specs.Prelude.{Result, Ok, Err, IsTrue}
+use Rattle.std.proofs.Common.{◌≡◌, ℕ, zero, suc, Bool, true, false, cond, List, [], ◌∷◌, ◌++◌, map, flat_map, take, Option, Some, None, inl, inr, refl, sym, ap, subst, ◌∙◌}
+use Rattle.std.specs.Prelude.{Result, Ok, Err}
 use Rattle.sip_ports.specs.Desk.{IsOfLink, steps}
-use Rattle.sip_ports.specs.Ports.{GoesOn, ins, outs}
+use Rattle.sip_ports.specs.Ports.{GoesOn, ins}
 use Rattle.sip_ports.specs.declared.port.TalkEvent.{TalkEvent}
 use Rattle.sip_ports.specs.declared.port.TalkEvent.TheVariants.{Out, In, Ended, Fresh, Stored, Renames, Kept}
 use Rattle.sip_ports.proofs.DeskLemmas.{IsOfLink-append, IsOfLink-ins, IsOfLink-outs}
@@ -13,7 +13,7 @@ use Rattle.sip_wire.specs.declared.message.Message.TheVariants as messages
 use Rattle.sip_wire.specs.declared.message.Reason.{Reason}
 use Rattle.sip_wire.specs.declared.version.Version.{Version}
 use Rattle.sip_replies.specs.Replies as general
-use Rattle.sip_replies.specs.Talks.{IsPrefix, asked, asked_unless, ending, sent}
+use Rattle.sip_replies.specs.Talks.{asked, ending, sent}
 use Rattle.sip_verifier.specs.Kinds.{Holds, KindRow, built, missing, kind_row}
 use Rattle.sip_verifier.specs.Questions.{said_by_kind}
 use Rattle.sip_verifier.specs.Questions as queries

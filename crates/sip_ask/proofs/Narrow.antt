@@ -1,6 +1,6 @@
 -- A seat that a question takes refuses nothing: what it keeps of a side without negatives is that side's weight.
-use Rattle.std.proofs.Common.{◌≡◌, ℕ, suc, ◌+◌, ◌-◌, ◌<◌, ◌≤◌, Bool, true, false, ◌||◌, ℤ, pos, List, [], ◌∷◌, length, get_or, All, Option, Some, None, refl, sym, ap, subst, ◌∙◌, arith}
-use Rattle.std.specs.Prelude.{◌-ℤ◌, Result, Ok, Err}
+use Rattle.std.proofs.Common.{◌≡◌, ℕ, suc, ◌+◌, Bool, false, ℤ, pos, List, [], ◌∷◌, get_or, All, None, refl, sym, ap, subst, ◌∙◌, arith}
+use Rattle.std.specs.Prelude.{◌-ℤ◌, Err}
 use Rattle.std.specs.Int.{from_bool}
 use Rattle.std.proofs.lemmas.Int.{ints}
 use Rattle.std.proofs.lemmas.List.Elements.{All-get_or, All-head, All-tail}
@@ -20,7 +20,7 @@ use Rattle.sip_verifier.specs.declared.status.Status.TheVariants as runs
 use Rattle.sip_verifier.specs.declared.weights.Weights.{Weights}
 use Rattle.sip_moments.specs.Moments.{is_too_high}
 use Rattle.sip_questions.specs.Questions.{first_by}
-use Rattle.sip_questions.specs.Sittings.{QuestionSitting, Starts, question_at, refusal_at, running_at}
+use Rattle.sip_questions.specs.Sittings.{Starts, question_at, refusal_at, running_at}
 use Rattle.sip_questions.specs.declared.question.Question.{Question}
 use Rattle.sip_questions.specs.declared.question.Question.TheVariants as questions
 use Rattle.sip_questions.specs.declared.seat.QuestionSeat.{QuestionSeat}
@@ -33,7 +33,7 @@ use Rattle.sip_sketch.specs.declared.kind.SeatKind.TheVariants as kinds
 use Rattle.sip_sketch.proofs.Kept as kept
 use Rattle.sip_sketch.proofs.Kept.{heavy_field}
 use Rattle.sip_sketch.proofs.Whole.{SeatFits, fits_from, ranged_from}
-use Rattle.sip_ask.specs.Choosing.{is_high_of, is_signed, is_wide_of, kind_for, kind_of, negative_told, weight_told}
+use Rattle.sip_ask.specs.Choosing.{is_signed, is_wide_of, kind_for, kind_of, negative_told, weight_told}
 use Rattle.sip_ask.specs.inside.Seating.{IsSeat, IsTested, Serves}
 
 -- ---- what a seat keeps of a total

@@ -1,8 +1,8 @@
 -- What a seat keeps serves each question of its kind.
-use Rattle.std.proofs.Common.{◌≡◌, ℕ, ◌<◌, ◌≤◌, Bool, true, false, List, [], ◌∷◌, length, get_or, All, refl, sym, ap, subst, ◌∙◌, arith}
+use Rattle.std.proofs.Common.{◌≡◌, ℕ, ◌≤◌, true, false, List, [], ◌∷◌, All, refl, sym, subst}
 use Rattle.std.specs.Prelude.{IsTrue}
 use Rattle.std.proofs.lemmas.Bool.{and_parts}
-use Rattle.std.proofs.lemmas.List.Elements.{All-cons, All-get_or, All-head, All-nil, All-tail}
+use Rattle.std.proofs.lemmas.List.Elements.{All-cons, All-head, All-nil, All-tail}
 use Rattle.sip_vector.specs.Built.{is_built}
 use Rattle.sip_vector.specs.Limits.{most_depth}
 use Rattle.sip_vector.specs.declared.query.Query.{Query}
@@ -20,7 +20,7 @@ use Rattle.sip_questions.specs.declared.question.Question.{Question}
 use Rattle.sip_questions.specs.declared.question.Question.TheVariants as questions
 use Rattle.sip_sketch.specs.Seats.{numbers_kept, query_of}
 use Rattle.sip_sketch.specs.Sketches.{IsSketch, SeatValues, SketchValues, byte}
-use Rattle.sip_sketch.specs.Standing.{SeatStands, Stands}
+use Rattle.sip_sketch.specs.Standing.{SeatStands}
 use Rattle.sip_sketch.specs.declared.kind.SeatKind.{SeatKind}
 use Rattle.sip_sketch.proofs.Whole.{head_from, ranged_from}
 use Rattle.sip_ask.specs.Choosing.{fits, kind_for, kind_of}

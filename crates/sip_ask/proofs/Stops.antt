@@ -1,9 +1,8 @@
 -- How an ask ends where one of its parts stopped.
-use Rattle.std.proofs.Common.{◌≡◌, ℕ, ◌<◌, ◌≤◌, Result, Ok, Err, List, [], ◌∷◌, ◌++◌, length, map, take, drop, refl, sym, ap, subst, ◌∙◌, append-nil, arith}
+use Rattle.std.proofs.Common.{◌≡◌, ℕ, ◌<◌, ◌≤◌, Result, Ok, Err, List, [], ◌∷◌, ◌++◌, length, take, drop, sym, ap, subst, ◌∙◌, append-nil, arith}
 use Rattle.std.specs.Prelude.{IfErr, MatchResult, flat_map}
 use Rattle.std.specs.declared.option.Option.{Option}
 use Rattle.std.proofs.lemmas.List.{length-map, take-append-drop, take-map}
-use Rattle.sip_ports.specs.Desk.{IsOfLink}
 use Rattle.sip_ports.specs.Ports.{GoesOn, Rose, SendsWhole, outs}
 use Rattle.sip_ports.specs.declared.port.PortStop.{PortStop}
 use Rattle.sip_ports.specs.declared.port.PortStop.TheVariants as stops
@@ -27,7 +26,7 @@ use Rattle.sip_ask.specs.Turns.{IsFarewell}
 use Rattle.sip_ask.specs.declared.status.AskPort.TheVariants as ports
 use Rattle.sip_ask.specs.declared.status.AskStatus.{AskStatus}
 use Rattle.sip_ask.specs.declared.status.AskStatus.TheVariants as statuses
-use Rattle.sip_ask.specs.inside.Ending.{of_link, of_report, of_run, stopped}
+use Rattle.sip_ask.specs.inside.Ending.{of_link, of_report, of_run}
 use Rattle.sip_ask.specs.inside.Steps.{IsReportStop}
 
 -- what a call of a port gave, with the status of an ask that stopped there

@@ -1,10 +1,10 @@
 -- What came of the questions of an ask, one after another.
-use Rattle.std.proofs.Common.{◌≡◌, ℕ, zero, suc, ◌+◌, ◌*◌, ◌<◌, true, Result, Ok, Err, Option, Some, None, List, [], ◌∷◌, ◌++◌, length, get_or, take, drop, refl, sym, ap, subst, ◌∙◌, inl, inr, arith}
-use Rattle.std.specs.Prelude.{IfErr, IsTrue, map}
+use Rattle.std.proofs.Common.{◌≡◌, ℕ, zero, suc, ◌+◌, ◌*◌, ◌<◌, Result, Ok, Err, Option, Some, None, List, [], ◌∷◌, length, get_or, take, drop, refl, sym, ap, subst, ◌∙◌, inl, inr, arith}
+use Rattle.std.specs.Prelude.{IfErr}
 use Rattle.std.specs.List.{AllZip}
 use Rattle.std.proofs.lemmas.List.{drop_more, take-append-drop}
 use Rattle.sip_ports.specs.Desk.{IsOfLink}
-use Rattle.sip_ports.specs.Ports.{GoesOn, SendsWhole, outs}
+use Rattle.sip_ports.specs.Ports.{GoesOn, outs}
 use Rattle.sip_ports.specs.declared.port.TalkEvent.{TalkEvent}
 use Rattle.sip_ports.proofs.TalkLemmas.{GoesOn-refl, GoesOn-trans}
 use Rattle.sip_vector.specs.Answers.{pairs}
@@ -29,9 +29,9 @@ use Rattle.sip_questions.specs.declared.question.Question.TheVariants as questio
 use Rattle.sip_sketch.specs.Sketches.{SeatValues, SketchValues, size_of}
 use Rattle.sip_ask.specs.Asking.{AsksAll, Came, IsStored, IsStoredInPart, StoresFirst, marked_by, steps_of}
 use Rattle.sip_ask.specs.Causes.{HasRisen, IsStop}
-use Rattle.sip_ask.specs.Choosing.{choice, is_idle}
+use Rattle.sip_ask.specs.Choosing.{choice}
 use Rattle.sip_ask.specs.Marking.{mark, used_at}
-use Rattle.sip_ask.specs.Turns.{IsFarewell, block_at}
+use Rattle.sip_ask.specs.Turns.{block_at}
 use Rattle.sip_ask.specs.declared.status.AskPort.TheVariants as ports
 use Rattle.sip_ask.specs.declared.status.AskStatus.{AskStatus}
 use Rattle.sip_ask.specs.declared.status.AskStatus.TheVariants as statuses

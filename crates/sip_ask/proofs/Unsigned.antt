@@ -1,8 +1,7 @@
 -- A side of which no delta was below 0: its total is its weight, so that what is told of the stream says which questions are refused and which are answered without being asked.
-use Rattle.std.proofs.Common.{◌≡◌, ℕ, zero, suc, ◌+◌, ◌^◌, ◌<◌, ◌≤◌, Bool, true, false, not, cond, leb, ℤ, pos, negsuc, ◌≤ℤ◌, ◌+ℤ◌, nat_abs, List, [], ◌∷◌, map, All, Option, Some, None, refl, sym, ap, subst, ◌∙◌, arith}
-use Rattle.std.specs.Prelude.{IsTrue, Ok, nat_lt, sum_by, int_lt}
-use Rattle.std.specs.List.{list_any}
-use Rattle.std.proofs.lemmas.Bool.{lt-leb, ltb-true, not-true, or_parts}
+use Rattle.std.proofs.Common.{◌≡◌, ℕ, ◌+◌, ◌^◌, ◌<◌, true, false, leb, ℤ, pos, negsuc, ◌≤ℤ◌, ◌+ℤ◌, nat_abs, List, [], ◌∷◌, map, All, Some, None, refl, sym, ap, subst, ◌∙◌, arith}
+use Rattle.std.specs.Prelude.{sum_by, int_lt}
+use Rattle.std.proofs.lemmas.Bool.{lt-leb, ltb-true, or_parts}
 use Rattle.std.proofs.lemmas.Int.{ints}
 use Rattle.std.proofs.lemmas.List.Elements.{All-head, All-tail}
 use Rattle.std.proofs.lemmas.List.Sums.{sum_by-cons}
@@ -13,7 +12,6 @@ use Rattle.sip_vector.specs.Tallies.{has_negative, tally}
 use Rattle.sip_vector.specs.Thresholds.{is_wide, share_of}
 use Rattle.sip_vector.specs.declared.query.Query.{Query}
 use Rattle.sip_vector.specs.declared.query.Query.TheVariants.{Sub, Range, F2, Inner, Heavy, Share, Above}
-use Rattle.sip_vector.specs.declared.tally.Tally.{Tally}
 use Rattle.sip_vector.specs.declared.update.Side.{Side}
 use Rattle.sip_vector.specs.declared.update.Side.TheVariants.{First, Second}
 use Rattle.sip_vector.specs.declared.update.Update.{Update}
@@ -23,10 +21,10 @@ use Rattle.sip_heavy.specs.Counting.{heavy_over}
 use Rattle.sip_heavy.specs.Protocol.{count_of}
 use Rattle.sip_verifier.specs.Widths.{is_too_wide}
 use Rattle.sip_verifier.specs.runs.Asking.{question_of}
-use Rattle.sip_questions.specs.Questions.{Answered, asking, first_refusal, refusal_of, to_query}
+use Rattle.sip_questions.specs.Questions.{asking, first_refusal, refusal_of, to_query}
 use Rattle.sip_questions.specs.declared.question.Question.{Question}
 use Rattle.sip_questions.specs.declared.question.Question.TheVariants as questions
-use Rattle.sip_ask.specs.Choosing.{is_high_of, is_idle, is_signed, is_wide_of, large_of, weight_told}
+use Rattle.sip_ask.specs.Choosing.{is_idle, is_signed, is_wide_of, weight_told}
 use Rattle.sip_ask.specs.inside.Seating.{IsTested}
 use Rattle.sip_ask.proofs.Premises.{any_below, high-told, not-below, told-negative}
 

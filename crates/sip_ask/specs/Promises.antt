@@ -2,7 +2,7 @@
 -- if the stream had passed through its talk in place of what asks for it, and if the file had been
 -- left out of it.
 use Rattle.std.specs.Prelude.{◌≡◌, ℕ, ◌≤◌, List, [], ◌∷◌, ◌++◌, length, flat_map, replicate}
-use Rattle.std.specs.Prelude.{Some, None, Ok}
+use Rattle.std.specs.Prelude.{Some, None}
 use Rattle.std.specs.declared.option.Option.{Option}
 use Rattle.sip_ports.specs.Ports.{GoesOn, outs}
 use Rattle.sip_ports.specs.declared.port.TalkEvent.{TalkEvent}
@@ -23,7 +23,6 @@ use Rattle.sip_questions.specs.Questions.{version_for}
 use Rattle.sip_questions.specs.declared.question.Question.{Question}
 use Rattle.sip_sketch.specs.Sketches.{SketchValues}
 use Rattle.sip_sketch.specs.Standing.{Stands}
-use Rattle.sip_ask.specs.Choosing.{choice}
 use Rattle.sip_ask.specs.Turns.{block_at, held_by, held_heard, recall_sent}
 use Rattle.sip_ask.specs.declared.status.AskPort.TheVariants as ports
 use Rattle.sip_ask.specs.declared.status.AskStatus.{AskStatus}

@@ -80,7 +80,8 @@ fn recall<K: Sink>(version: Version, depth: Depth, count: u64, sink: &mut K) -> 
 // Hears what the other end holds.
 fn hear_held<L: Link>(version: Version, link: &mut L, frame: &mut Frame) -> Result<Held, AskStatus>
     ensures hears { HearsHeld version (L.talk link.old) (L.talk link.new) result }
-    ensures cause { result ≡ Err AskStatus.PeerFault → Rose (L.faults link.old) (L.faults link.new) }
+    ensures cause { result ≡ Err AskStatus.PeerFault
+        → Rose (L.faults link.old) (L.faults link.new) }
     ensures memory { result ≡ Err AskStatus.OutOfMemory
         → Rose (L.wants link.old) (L.wants link.new) }
     ensures link { Lasts L.faults L.wants L.is_sure link.old link.new }
@@ -109,7 +110,8 @@ pub(crate) fn open<L: Link>(
 ) -> Result<(), AskStatus>
     requires { depth ≤ deepest version }
     ensures opens { OpensWith version depth tally.now (L.talk link.old) (L.talk link.new) result }
-    ensures cause { result ≡ Err AskStatus.PeerFault → Rose (L.faults link.old) (L.faults link.new) }
+    ensures cause { result ≡ Err AskStatus.PeerFault
+        → Rose (L.faults link.old) (L.faults link.new) }
     ensures memory { result ≡ Err AskStatus.OutOfMemory
         → Rose (L.wants link.old) (L.wants link.new) }
     ensures link { Lasts L.faults L.wants L.is_sure link.old link.new }

@@ -49,7 +49,7 @@ IsMarked s place old new (Err (statuses.WriteFault ports.Sketch)) = IsStoredInPa
 IsMarked s place old new (Err statuses.OutOfMemory) = IsStoredInPart s place old new
 IsMarked s place old new (Err _) = ⊥
 
--- for a question that takes this seat it was stored before anything was said, if it was; and for one
+-- for a question that takes this seat it was stored, if it was, before anything was said; for one
 -- that takes none nothing was
 abbrev pub Stores : SketchValues → Option ℕ → Option (List TalkEvent) → Option (List TalkEvent)
     → Result (Unit {0}) AskStatus → Type 0

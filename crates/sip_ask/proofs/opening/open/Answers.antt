@@ -1,7 +1,5 @@
 -- What was sent, and what was heard behind it.
-use Rattle.std.proofs.Common.{◌≡◌, Err, ap, ◌∙◌, sym}
 use Rattle.std.proofs.lemmas.Result.{err_from_is_err_and}
-use Rattle.sip_ports.specs.declared.port.PortStop.{PortStop}
 use Rattle.sip_ask.proofs.HeldHeard.{cut_short, unheard_behind}
 use Rattle.sip_ask.proofs.opening.open.Goals as goal
 

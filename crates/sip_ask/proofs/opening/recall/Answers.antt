@@ -1,5 +1,5 @@
 -- The opening stopped, or the count was sent behind it.
-use Rattle.std.proofs.Common.{◌++◌, [], List, ℕ, sym, subst, append-nil}
+use Rattle.std.proofs.Common.{◌++◌, [], sym, subst, append-nil}
 use Rattle.std.specs.Prelude.{flat_map, ◌∷◌}
 use Rattle.std.proofs.lemmas.Result.{err_from_is_err_and}
 use Rattle.sip_ports.specs.Ports.{SendsWhole}

@@ -1,5 +1,5 @@
 -- The question is asked at the block of the seat, which refuses nothing.
-use Rattle.std.proofs.Common.{◌≡◌, List, ℕ, get_or, sym, ap, ◌∙◌}
+use Rattle.std.proofs.Common.{◌≡◌, List, get_or, sym, ap, ◌∙◌}
 use Rattle.sip_questions.specs.Sittings as sittings
 use Rattle.sip_sketch.specs.Sketches.{SeatValues}
 use Rattle.sip_ask.specs.Turns.{block_at}

@@ -1,8 +1,7 @@
 -- A question that takes a seat has one more, and another has none.
-use Rattle.std.proofs.Common.{◌≡◌, ℕ, List, None, arith}
+use Rattle.std.proofs.Common.{◌≡◌, ℕ, None, arith}
 use Rattle.std.proofs.lemmas.List.Elements.{All-push, All-same}
 use Rattle.sip_lookup.specs.declared.lookup.Lookup.TheVariants as lookups
-use Rattle.sip_questions.specs.Promises.{CanPose}
 use Rattle.sip_questions.specs.Questions.{version_for}
 use Rattle.sip_questions.specs.Sittings.{CanAsk, StandsAt, refusal_at}
 use Rattle.sip_questions.specs.declared.question.Question.TheVariants as questions

@@ -2,7 +2,6 @@
 use Rattle.std.proofs.Common.{◌≡◌, ◌≤◌, Ok, Err, ap, ◌∙◌, arith}
 use Rattle.std.proofs.lemmas.Result.{err_from_is_err_and}
 use Rattle.sip_ports.proofs.TalkLemmas.{GoesOn-refl}
-use Rattle.sip_wire.specs.declared.version.Version.{Version}
 use Rattle.sip_questions.specs.Questions.{version_for}
 use Rattle.sip_sketch.specs.Sketches.{SketchValues}
 use Rattle.sip_ask.specs.declared.status.AskStatus.TheVariants as statuses

@@ -1,5 +1,5 @@
 -- Each question is added to those before it; behind the last one the farewell is said.
-use Rattle.std.proofs.Common.{◌≡◌, ℕ, suc, ◌+◌, ◌<◌, ◌≤◌, Err, [], length, drop, get_or, refl, sym, ap, ◌∙◌, rules, arith, add-one}
+use Rattle.std.proofs.Common.{◌+◌, ◌<◌, ◌≤◌, Err, [], length, refl, ◌∙◌, rules, arith, add-one}
 use Rattle.std.proofs.lemmas.List.{drop_all}
 use Rattle.std.proofs.lemmas.Result.{err_from_is_err_and}
 use Rattle.sip_ports.proofs.FaultLemmas.{Lasts-trans}
@@ -7,7 +7,7 @@ use Rattle.sip_ports.proofs.TalkLemmas.{GoesOn-refl}
 use Rattle.sip_questions.specs.Questions.{asking}
 use Rattle.sip_questions.specs.Sittings.{remaining_of}
 use Rattle.sip_ask.proofs.Chosen.{chosen-is}
-use Rattle.sip_ask.proofs.Stops.{bye_said, farewell_said, link_rose, link_stops, risen_if}
+use Rattle.sip_ask.proofs.Stops.{bye_said, farewell_said}
 use Rattle.sip_ask.proofs.TurnsTaken.{asks_more_at, asks_stop_at, behind_depth, behind_left, behind_version, came_as, next_block, next_count, next_is, same_count, stores_more_at, stores_stop_at, within_asked}
 use Rattle.sip_ask.proofs.asking.Asking.ask_all.Goals as goal
 

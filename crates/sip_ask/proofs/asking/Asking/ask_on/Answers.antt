@@ -1,13 +1,7 @@
 -- The file was stored, and then the question was asked.
-use Rattle.std.proofs.Common.{◌≡◌, ℕ, Result, Ok, Err, refl, ap, rules}
-use Rattle.std.specs.Prelude.{IfErr}
-use Rattle.sip_ports.specs.Ports.{GoesOn}
-use Rattle.sip_verifier.specs.declared.status.Status.{Status}
+use Rattle.std.proofs.Common.{refl, rules}
 use Rattle.sip_questions.specs.Questions.{asking}
-use Rattle.sip_ask.specs.Asking.{Came, steps_of}
-use Rattle.sip_ask.specs.Causes.{HasRisen}
 use Rattle.sip_ask.specs.inside.Ending.{of_run}
-use Rattle.sip_ask.specs.inside.Steps.{IsMarked, Stores}
 use Rattle.sip_ask.proofs.Stops.{never_unkept, risen_if, run_rose}
 use Rattle.sip_ask.proofs.TurnsTaken.{asked_came, stored_then}
 use Rattle.sip_ask.proofs.asking.Asking.ask_on.Goals as goal
