@@ -36,9 +36,13 @@ const HELD: &[u8] = &[
     0x00, 0x00, 0x09, 0x00, 0x00, 0x00, 0x00, 0x00, 0x00, 0x00, 0x00, 0xb8, 0x26, 0x1a, 0xe7, 0xdb,
     0x4f, 0xab, 0x00,
 ];
+
 const ENTRIES: &[u8] = b"\x13\0\x0e\0\x01\0\0\0\x02\0\0\0\0\0\0\0\x05";
+
 const SIBLINGS: &[u8] = b"\x14\0\x11\x03\0\0\0\0\0\0\0\x03\0\0\0\0\0\0\0\x01";
+
 const LIES: &[u8] = b"\x14\0\x11\x03\0\0\0\0\0\0\0\x01\0\0\0\0\0\0\0\x01";
+
 const NO_SIBLINGS: &[u8] = b"\x14\0\x01\0";
 
 const OTHER_HELD: &[u8] = &[
@@ -48,15 +52,19 @@ const OTHER_HELD: &[u8] = &[
 ];
 
 const SUB: Question = Question::Query(Query::Sub { lo: 1, hi: 2 });
+
 const SQUARES: Question = Question::Query(Query::F2 { side: Side::First });
+
 const IDLE: Question = Question::Query(Query::Heavy {
     side: Side::First,
     at_least: 10,
 });
+
 const HEAVY: Question = Question::Query(Query::Heavy {
     side: Side::First,
     at_least: 9,
 });
+
 const UNFIT: Question = Question::Query(Query::Sub { lo: 1, hi: 4 });
 
 const KEPT: Held = Held {
@@ -104,7 +112,14 @@ type Row<'a> = (
 const HONEST: &[&[u8]] = &[HELD, ENTRIES, SIBLINGS, NO_SIBLINGS];
 
 const ROWS: [Row; 16] = [
-    (&[SUB], HONEST, &[], AskStatus::Accepted, b"sub:1:2 2:5\n", true),
+    (
+        &[SUB],
+        HONEST,
+        &[],
+        AskStatus::Accepted,
+        b"sub:1:2 2:5\n",
+        true,
+    ),
     (
         &[IDLE, SUB],
         HONEST,
@@ -113,7 +128,14 @@ const ROWS: [Row; 16] = [
         b"heavy:0:10 none\nsub:1:2 2:5\n",
         true,
     ),
-    (&[IDLE], &[HELD], &[], AskStatus::Accepted, b"heavy:0:10 none\n", false),
+    (
+        &[IDLE],
+        &[HELD],
+        &[],
+        AskStatus::Accepted,
+        b"heavy:0:10 none\n",
+        false,
+    ),
     (
         &[SUB, SQUARES],
         &[HELD, ENTRIES, LIES, NO_SIBLINGS],
@@ -122,10 +144,38 @@ const ROWS: [Row; 16] = [
         b"rejected query 1 round 2 Root\n",
         true,
     ),
-    (&[SUB], &[HELD], &[], CLOSED, b"rejected query 1 round 0 Closed\n", true),
-    (&[SUB, SUB], HONEST, &[], AskStatus::NoSeat { query: 2 }, b"", false),
-    (&[HEAVY], HONEST, &[], AskStatus::NoSeat { query: 1 }, b"", false),
-    (&[SUB, UNFIT], HONEST, &[], AskStatus::Unfit { query: 2 }, b"", false),
+    (
+        &[SUB],
+        &[HELD],
+        &[],
+        CLOSED,
+        b"rejected query 1 round 0 Closed\n",
+        true,
+    ),
+    (
+        &[SUB, SUB],
+        HONEST,
+        &[],
+        AskStatus::NoSeat { query: 2 },
+        b"",
+        false,
+    ),
+    (
+        &[HEAVY],
+        HONEST,
+        &[],
+        AskStatus::NoSeat { query: 1 },
+        b"",
+        false,
+    ),
+    (
+        &[SUB, UNFIT],
+        HONEST,
+        &[],
+        AskStatus::Unfit { query: 2 },
+        b"",
+        false,
+    ),
     (
         &[SUB],
         &[OTHER_HELD],
@@ -138,7 +188,14 @@ const ROWS: [Row; 16] = [
         false,
     ),
     (&[SUB], &[], &[], AskStatus::PeerClosed, b"", false),
-    (&[SUB], &[b"\x18\0\x01\x01"], &[], AskStatus::BadFrame, b"", false),
+    (
+        &[SUB],
+        &[b"\x18\0\x01\x01"],
+        &[],
+        AskStatus::BadFrame,
+        b"",
+        false,
+    ),
     (&[SUB], HONEST, &[1], AskStatus::ReadFault, b"", false),
     (&[SUB], HONEST, &[2], AskStatus::PeerFault, b"", false),
     (&[SUB], HONEST, &[5], AskStatus::PeerFault, b"", false),
@@ -165,17 +222,19 @@ fn is_stored(file: Option<&[u8]>, is_used: bool) -> bool {
     if !is_used {
         return file == WATCHED.as_slice();
     }
-    file.len() == 152
-        && file[..53] == WATCHED[..53]
-        && file[53] == 1
-        && file[54..120] == WATCHED[54..120]
-        && file[120..] == USED_DIGEST[..]
+    let mut used = WATCHED;
+    used[53] = 1;
+    used[120..].copy_from_slice(&USED_DIGEST);
+    file == used.as_slice()
 }
 
 #[test]
 fn questions_are_asked(rt: HostRuntime) -> Result<(), Fail> {
     for (number, row) in ROWS.iter().enumerate() {
-        assert!(rt; !row.0.is_empty() && row.0.len() <= 16, "questions of row {number}");
+        assert!(rt;
+            !row.0.is_empty() && row.0.len() <= 16,
+            "questions of row {number}"
+        );
         let mut desk = desk(rt.alloc(), row.1, row.2, 0)?;
         let mut report = MemorySink::new(rt.alloc(), 10_000, Vec::new(rt.alloc()));
         let status = ask(rt.alloc(), row.0, &mut desk, &mut report);
@@ -228,9 +287,18 @@ fn a_talk_has_its_order(rt: HostRuntime) -> Result<(), Fail> {
     ask(rt.alloc(), &[SUB], &mut it, &mut report);
     let talk = it.talk();
     assert!(rt; talk.len() == 273, "events");
-    assert!(rt; talk[51] == TalkEvent::Fresh && talk[205] == TalkEvent::Kept, "the file");
-    assert!(rt; talk[206] == TalkEvent::Out(0x04) && talk[217] == TalkEvent::Out(2), "query");
-    assert!(rt; talk[218] == TalkEvent::In(0x13) && talk[255] == TalkEvent::Out(0x05), "reply");
+    assert!(rt;
+        talk[51] == TalkEvent::Fresh && talk[205] == TalkEvent::Kept,
+        "the file"
+    );
+    assert!(rt;
+        talk[206] == TalkEvent::Out(0x04) && talk[217] == TalkEvent::Out(2),
+        "query"
+    );
+    assert!(rt;
+        talk[218] == TalkEvent::In(0x13) && talk[255] == TalkEvent::Out(0x05),
+        "reply"
+    );
     let stored = it.file().unwrap_or(&[]);
     let Ok(sketch) = Sketch::read(rt.alloc(), stored) else {
         assert!(rt; false, "what is stored");
