@@ -40,6 +40,14 @@ class Programs:
             programs["old"] = [os.path.abspath(os.environ["OLD"])]
         return programs
 
+    def sip(self):
+        """`sip` alone, where nothing is compared with other programs."""
+        return [proved("sip", ["--version"])]
+
+    def bench(self):
+        """The parts, alone."""
+        return [proved("sip_bench", [])]
+
     def base(self):
         """`sip`, and the older program that it is held to; nothing where the path of that one isn't given."""
         path = os.environ.get("BASE")

@@ -6,6 +6,7 @@ from harness.children import run
 from harness.hitters import AT_LEAST
 from harness.lookups import Lookups
 from harness.moments import DEGREES, Moments, ones
+from harness.serving import QUESTIONS, Stores
 from harness.settings import reachable, stream_word
 from harness.streams import put
 from harness.talks import Talks, made, parts
@@ -94,6 +95,12 @@ def see_own_talks(table, program, depth, work):
         talks = Moments(put(list(ones(RECORDS, depth, degree)), depth), depth, work)
         for count in (1, 16):
             see_own(table, talks, program, f"F{degree} {count}", [f"moment:0:{degree}"] * count)
+    stores = Stores(program, RECORDS, depth, work)
+    for word in QUESTIONS:
+        stores.prepare(word)
+        for form in stores.forms:
+            stack = stores.served(form, traced=True).stack
+            table.line(f"serve {form} {depth} {word.partition(':')[0]}", {"sip": stack})
 
 
 def see_own(table, talks, program, label, words, **further):

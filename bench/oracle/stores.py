@@ -42,9 +42,12 @@ class StoreTalk(QuestionTalk):
         return updates[:count]
 
 
-def store_of(stream, files):
-    """What a talk has of the file that a word names."""
-    data = files.get(stream.path)
+def store_of(said, files):
+    """What a talk has of the file STORED. Where that is FROM it is not opened: to read it would
+    take the other end's bytes."""
+    stream = said["stored"]
+    is_from = stream.path == said["from"] != "-"
+    data = None if is_from else files.get(stream.path)
     return lambda depth: None if data is None else records(data, depth, stream.form)
 
 
@@ -53,7 +56,7 @@ def run(words, files, may_be_made=lambda name: True, given=b""):
     said, refused = runs.read_or_refused(words, STORES)
     if refused:
         return refused._replace(left=files)
-    store = store_of(said["stored"], files)
+    store = store_of(said, files)
     port = Link(said, {**files, "-": given}, may_be_made)
     outcome = runs.heard(port, lambda data: served(data, StoreTalk(store)))
     if said["to"] == "-":

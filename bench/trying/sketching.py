@@ -1,16 +1,18 @@
 """Cases of a sketch: how it begins, how it grows by a stream in a file, and how it is shown. The
 file is often spoiled, and the stream another than the one that the sketch has a front of."""
 
-from oracle import sketch_runs
+from oracle import whole
 from oracle.sketches import KINDS, spelled
 from oracle.streams import illegal, record
-from oracle.words import SKETCHES, Usage, read_words
+from oracle.words import SKETCHES
 
 from . import changes, spoiled
 from .case import Case
 from .commands import changed
 from .copies import illegal_somewhere, line_changed
+from .program import FROM
 from .replies import word_of
+from .tame import tame
 
 # Words that are one of these commands' own, or nearly.
 WORDS = (
@@ -26,9 +28,9 @@ WORDS = (
 )  # fmt: skip
 
 
-def run(case, files, may_be_made):
-    """What a case of these commands comes to."""
-    return sketch_runs.run(case.words, files, may_be_made, case.busy)
+def run(case, files, may_be_made, verbs):
+    """What a case comes to, of a program with these commands."""
+    return whole.run(case.words, files, may_be_made, case.busy, case.given, verbs)
 
 
 def case(chance):
@@ -54,24 +56,19 @@ def beside(chance, it):
     if chance.one_in(40) and not it.folders:
         it.files[name + ".new"] = b"left behind"
     if chance.one_in(8):
-        it = it._replace(words=words_changed(chance, it.words, WORDS))
+        it = it._replace(words=words_changed(chance, it, WORDS))
     return it
 
 
-def words_changed(chance, words, pool):
-    """Other words, in which a sketch is no folder, beside which its lock would lie."""
-    words = [word.decode() for word in words]
+def words_changed(chance, it, pool, verbs=tuple(SKETCHES)):
+    """Other words for a case, of which it is sure what they do."""
+    words = [word.decode() for word in it.words]
     for _ in range(chance.choice((1, 1, 2))):
         words = changed(chance, words, pool)
     if chance.one_in(30):
-        words = [chance.choice(tuple(SKETCHES)), chance.choice(("--help", "-h"))]
-    try:
-        _, said = read_words(words, SKETCHES)
-    except Usage:
-        return [word.encode() for word in words]
-    if set(said["sketch"]) == {"."}:
-        words[1] = "sketch"
-    return [word.encode() for word in words]
+        words = [chance.choice(verbs), chance.choice(("--help", "-h"))]
+    there = {*it.files, *(() if it.data is None else (FROM,))}
+    return [word.encode() for word in tame(words, there)]
 
 
 def begin(chance, depth):

@@ -1,7 +1,7 @@
 """Worked talks of a helper that has the stream 0 0 3, 0 2 5, 0 3 1 in a store, at the challenges
 (2, 10), and runs of `serve`."""
 
-from oracle import stores
+from oracle import stores, whole
 from oracle.judging import verdict
 from oracle.frames import spelling
 from oracle.questions import LOOKUPS
@@ -87,6 +87,21 @@ RUNS = [
     ("serve made:7:3 f t", LINES, b"", "sip: usage at word 1", None),
     ("serve text:S f", LINES, b"", "sip: usage at word 3", b""),
     ("serve text:S f t -", LINES, b"", "sip: usage at word 4", None),
+    # To read the file that FROM is would take the other end's bytes.
+    ("serve text:f f t", LINES, OPEN + RECALL + BYE, "sip: read fault on first", b""),
+    ("serve f f t", LINES, OPEN + ONE, "sip: read fault on first", b""),
+    ("serve f f t", LINES, OPEN + NOTHING + BYE, "", HELD_NONE),
+    ("serve text:f f f", LINES, OPEN + RECALL, "sip: read fault on first", OPEN + RECALL),
+    ("serve text:none none t", LINES, b"", "sip: peer fault", b""),
+    # Each command refuses the words behind it.
+    ("help S - -", LINES, b"", "sip: usage at word 3", None),
+    ("help f t", LINES, OPEN + END_STREAM + BYE, "", b""),
+    ("seats text:S f", LINES, b"", "sip: usage at word 2", b""),
+    ("seats S", LINES, b"", "sip: bad sketch at offset 0", LINES),
+    ("watch text:S f + t", LINES, b"", "sip: usage at word 4", None),
+    ("begin k f 2 1/1", LINES, b"", "sip: usage at word 5", None),
+    ("merge S", LINES, b"", "sip: usage at word 2", LINES),
+    ("ask k f t f2:0", LINES, b"", "sip: usage at word 0", None),
 ]
 
 
@@ -142,7 +157,10 @@ def accepted(data):
 def check_runs():
     for words, data, heard, said, written in RUNS:
         files = {"S": data, "f": heard}
-        outcome = stores.run(words.encode().split(), files, lambda name: "/" not in name)
+        made = lambda name: "/" not in name  # noqa: E731
+        outcome = whole.run(words.encode().split(), files, made, verbs=())
         same(words, (outcome.said, outcome.left.get(words.split()[-1])), (said, written))
-    through = stores.run(b"serve text:S - -".split(), {"S": LINES}, given=OPEN + RECALL + BYE)
-    same("standard input and output", (through.said, through.report), ("", HELD))
+    for stored, files in (("text:S", {"S": LINES}), ("text:-", {"-": LINES})):
+        words = f"serve {stored} - -".encode().split()
+        through = whole.run(words, files, given=OPEN + RECALL + BYE)
+        same("standard input and output", (through.said, through.report), ("", HELD))

@@ -3,14 +3,12 @@ something changed, over files that are longer or shorter than what is asked for,
 
 from itertools import product
 
-from oracle import stores
 from oracle.questions import LOOKUPS, Question, version_needed
 from oracle.streams import record, vectors
-from oracle.words import STORES, Usage, read_words
+from oracle.words import STORES
 
 from . import changes, sketching, talks
 from .case import Case
-from .commands import changed
 from .copies import illegal_somewhere
 from .program import FROM, TO
 from .replies import word_of
@@ -21,11 +19,6 @@ KINDS = ("sub", "range", "f2", "inner", "heavy", "share", *LOOKUPS, "moment")
 TUPLES = [kinds for length in (1, 2, 3) for kinds in product(KINDS, repeat=length)]
 
 WORDS = (*sketching.WORDS, "serve", "help", FROM, TO, "made:7:3", ".", "..")
-
-
-def run(case, files, may_be_made):
-    """What a case of `serve` comes to."""
-    return stores.run(case.words, files, may_be_made, case.given)
 
 
 def case(chance):
@@ -114,19 +107,5 @@ def linked(chance, it):
         if ends[0] == b"-":
             it = it._replace(given=it.data, data=None)
     if chance.one_in(15):
-        it = it._replace(words=words_changed(chance, it.words))
+        it = it._replace(words=sketching.words_changed(chance, it, WORDS, tuple(STORES)))
     return it
-
-
-def words_changed(chance, words):
-    """Other words, that make no file which is the store then."""
-    words = [word.decode() for word in words]
-    for _ in range(chance.choice((1, 1, 2))):
-        words = changed(chance, words, WORDS)
-    try:
-        _, said = read_words(words, STORES)
-    except Usage:
-        return [word.encode() for word in words]
-    if said["to"] in (said["stored"].path, said["from"]) and said["to"] not in ("store", FROM):
-        words[3] = "apart"
-    return [word.encode() for word in words]

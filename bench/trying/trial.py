@@ -12,7 +12,8 @@ from typing import Callable, NamedTuple, Optional
 from harness.programs import proved
 from oracle.advice import advice
 from oracle.runs import behind_progress, run
-from oracle.words import SKETCHES, Usage, read_words
+from oracle.whole import EVERY
+from oracle.words import ASKS, SKETCHES, Usage, read_words
 
 from .chances import Chances
 from .program import FROM, TO, Program
@@ -40,6 +41,8 @@ class Trial:
 
     def __init__(self, name, group, path, settings):
         self.name, self.group, self.path, self.settings = name, group, path, settings
+        # The commands that the program has. `ask` is one that it need not have.
+        self.verbs = [verb for verb in EVERY if verb not in ASKS or has(path, verb)]
         self.seen = Counter()
         self.wrong = 0
 
@@ -121,9 +124,9 @@ class Trial:
     def with_files(self, chance, case, files, over_fifos):
         """Compares a run and all files behind it, and what it stored before its end."""
         self.program.makes_files(True)
-        outcome = self.group.run(case, files, lambda name: made_beside(case.folders, name))
-        ends = [FROM.encode(), TO.encode()]
-        if over_fifos and outcome.to is not None and case.words[-2:] == ends:
+        made = lambda name: made_beside(case.folders, name)  # noqa: E731
+        outcome = self.group.run(case, files, made, self.verbs)
+        if over_fifos and outcome.to is not None and is_link(case):
             return outcome, [*compared(outcome, self.over_fifos(chance, case, outcome))]
         stream, sketch = said_names(case.words) if over_fifos and outcome.stored else (None, None)
         if stream in case.files and stream != sketch:
@@ -167,6 +170,13 @@ def has(path, verb):
 
 def made_beside(folders, name):
     return name not in folders and may_be_made(name)
+
+
+def is_link(case):
+    """Whether the two ends of the link are where a case has them, and nowhere else."""
+    words, ends = case.words, [FROM.encode(), TO.encode()]
+    apart = not any(word.endswith(end) for word in words[:-2] for end in ends)
+    return case.data is not None and words[-2:] == ends and apart
 
 
 def said_names(words):
