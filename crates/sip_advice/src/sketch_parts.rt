@@ -83,8 +83,8 @@ macro_rules! with_sketches {
       first unused seat that serves it, which is used from then on, whatever
       comes: the file says so before the question is sent. heavy and share are
       not asked of a side that had a number below 0, and take no seat where T is
-      more than the whole side. Nothing limits the wait for the helper: timeout
-      60 sip ask .. does.
+      more than the whole side. The wait for the helper has no limit but one
+      that stands before the command, as timeout 60 sip ask .. does.
 
       sip ask web.sketch from.fifo to.fifo sub:100:199 succ:7 moment:0:3
 "
