@@ -8,8 +8,9 @@
 //! of a status and answers the exit code. None of these takes memory. [`obey_sketch`] does a
 //! command.
 //!
-//! `ask` is told from them by [`asks_sketch`], and has a [`read_ask_words`], an [`ask_ports`] and a
-//! [`finish_ask`] of its own: its words ask questions, and its status is a `sip_ask::AskStatus`.
+//! `ask` is told from them by [`asks_sketch`], and has a [`read_ask_words`], an [`ask_ports`], an
+//! [`obey_ask`] and a [`finish_ask`] of its own: its words ask questions, and its status is a
+//! `sip_ask::AskStatus`.
 //!
 //! # The definitions to read
 //!
@@ -36,6 +37,7 @@ mod command;
 mod ending;
 mod hint_text;
 mod obeying;
+mod obeying_ask;
 mod one_word;
 mod seats;
 mod seats_left;
@@ -50,6 +52,7 @@ pub use ask_words::{Questions, asks_sketch, read_ask_words};
 pub use command::{SketchCommand, read_sketch_words};
 pub use ending::{finish_sketch, shared_status};
 pub use obeying::obey_sketch;
+pub use obeying_ask::obey_ask;
 pub use seats::MOST_SEATS;
 pub use seats_left::SeatsLeft;
 pub use sketch_plan::{SketchPlan, file_opening, sketch_ports};

@@ -5,6 +5,8 @@
 #[cfg(test)]
 mod ask_ending_tests;
 #[cfg(test)]
+mod ask_run_tests;
+#[cfg(test)]
 mod ask_words_tests;
 #[cfg(test)]
 mod command_tests;
