@@ -1,7 +1,6 @@
 -- The words of `ask` name the files that it opens.
-use Rattle.std.proofs.Common.{◌≡◌, ℕ, ◌<◌, ◌≤◌, List, length, sym, refl, subst, inl, inr, arith}
+use Rattle.std.proofs.Common.{ℕ, ◌<◌, List, length, sym, refl, subst, inl, inr, arith}
 use Rattle.sip_words.specs.declared.plan.Opening.{Opening}
-use Rattle.sip_words.specs.declared.plan.Opening.TheVariants.{Path}
 use Rattle.sip_words.specs.Plan.{HasName, IsEnd}
 use Rattle.sip_words.specs.Words.{word}
 use Rattle.sip_questions.specs.declared.question.Question.{Question}

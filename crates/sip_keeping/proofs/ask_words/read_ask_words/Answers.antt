@@ -1,4 +1,3 @@
-use Rattle.std.proofs.Common.{◌∙◌, sym}
 use Rattle.sip_keeping.proofs.AskRead.{all_asked, mapped_err, mapped_ok, refused_first, refused_name, refused_question}
 use Rattle.sip_keeping.proofs.Refused.{no_such}
 use Rattle.sip_keeping.proofs.ask_words.read_ask_words.Goals as goal

@@ -1,4 +1,4 @@
-use Rattle.std.proofs.Common.{◌≡◌, true, false, ◌+◌, sym, refl, ap, subst, ◌∙◌, arith}
+use Rattle.std.proofs.Common.{◌≡◌, true, false, ◌+◌, sym, refl, subst, ◌∙◌, arith}
 use Rattle.sip_keeping.specs.AskWords.{IsQuestionWord}
 use Rattle.sip_keeping.specs.inside.AskSoFar.{StopsInQuestions}
 use Rattle.sip_keeping.proofs.AskRead.{questions_all, questions_to_more, stops_behind}
