@@ -1,4 +1,5 @@
--- The words that ask for a text are no command, and a verb begins no command that keeps a sketch.
+-- The words that ask for a text are no command, and a verb begins no command that keeps or asks a
+-- sketch.
 use Rattle.std.proofs.Common.{◌≡◌, ◌⊎◌, inl, inr, ℕ, Bool, true, false, true≢false, List, [], ◌∷◌, get_or, Option, None, Some, Bor, refl, sym, ap, ◌∙◌}
 use Rattle.std.specs.Prelude.{◌==◌, if◌then◌else◌, IsSome, IfSome}
 use Rattle.sip_words.specs.declared.verb.Verb.{Verb}
@@ -24,14 +25,15 @@ pub part_is_text : (words : List (List ℕ)) (r : Option (Bor (List ℕ))) → I
 part_is_text words None is some = absurd (let h = some in cc)
 part_is_text words (Some text) is some = inr (text.now, is)
 
--- whether a command that keeps a sketch begins with a word, by its first letters
+-- whether a command that keeps or asks a sketch begins with a word, by its first letters
 abbrev keeps_sketch : List ℕ → Bool
 keeps_sketch w =
     let first = get_or w 0 0 in
+    if first == 97 then get_or w 1 0 == 115 else (
     if first == 98 then true else (
     if first == 119 then get_or w 1 0 == 97 else (
     if first == 109 then get_or w 1 0 == 101 else (
-    if first == 115 then (if get_or w 1 0 == 101 then get_or w 2 0 == 97 else false) else false)))
+    if first == 115 then (if get_or w 1 0 == 101 then get_or w 2 0 == 97 else false) else false))))
 
 no_verb : (verb : Verb) → keeps_sketch (verb_word verb) ≡ false
 no_verb Verify = refl
@@ -54,7 +56,8 @@ begins_one : (word text : List ℕ) → IsSketchPart word text → keeps_sketch 
 begins_one word text (inl (is, said)) = ap keeps_sketch is
 begins_one word text (inr (inl (is, said))) = ap keeps_sketch is
 begins_one word text (inr (inr (inl (is, said)))) = ap keeps_sketch is
-begins_one word text (inr (inr (inr (is, said)))) = ap keeps_sketch is
+begins_one word text (inr (inr (inr (inl (is, said))))) = ap keeps_sketch is
+begins_one word text (inr (inr (inr (inr (is, said))))) = ap keeps_sketch is
 
 -- a verb has no part that is about such a command
 pub no_sketch_verb : (verb : Verb) (word text : List ℕ) → word ≡ verb_word verb → IsSketchPart word text → ⊥

@@ -6,7 +6,7 @@ use Rattle.sip_advice.specs.declared.page_text.TheConstants.{LINES_PART, LOOKUP_
 use Rattle.sip_advice.specs.declared.page_text.TheConstants.{PANEL_PART, PLAY_PART, SHOW_PART}
 use Rattle.sip_advice.specs.declared.page_text.TheConstants.{VERIFY_PART, WIDEN_PART, SERVE_PART}
 use Rattle.sip_advice.specs.declared.page_text.TheConstants.{BEGIN_PART, WATCH_PART, MERGE_PART}
-use Rattle.sip_advice.specs.declared.page_text.TheConstants.{SEATS_PART}
+use Rattle.sip_advice.specs.declared.page_text.TheConstants.{SEATS_PART, ASK_PART}
 use Rattle.sip_words.specs.declared.verb.Verb.{Verb}
 use Rattle.sip_words.specs.declared.verb.Verb.TheVariants.{Verify, Help, Audit, Show, Convert, Gen}
 use Rattle.sip_words.specs.declared.verb.Verb.TheVariants.{Lines, Widen, Play, Lookup, HelpLook}
@@ -44,12 +44,13 @@ part_of HelpMoments = HELPMOM_PART.now
 part_of Panel = PANEL_PART.now
 part_of Serve = SERVE_PART.now
 
--- the part that is about a command which keeps a sketch, by the first word of it
+-- the part that is about a command which keeps or asks a sketch, by the first word of it
 abbrev pub IsSketchPart : List ℕ → List ℕ → Type 0
 IsSketchPart word text = ((word ≡ codes "begin") × (text ≡ BEGIN_PART.now))
     ⊎ ((word ≡ codes "watch") × (text ≡ WATCH_PART.now))
     ⊎ ((word ≡ codes "merge") × (text ≡ MERGE_PART.now))
     ⊎ ((word ≡ codes "seats") × (text ≡ SEATS_PART.now))
+    ⊎ ((word ≡ codes "ask") × (text ≡ ASK_PART.now))
 
 -- the part that is about a command, by the first word of it
 abbrev pub IsPart : List ℕ → List ℕ → Type 0

@@ -5,7 +5,8 @@
 /// A verb, the first word.
 pub(crate) const VERB: &str = "\
 the first word is verify, play, panel, help, lookup, helplook, moments, helpmom, audit, \
-show, convert, gen, lines, widen, begin, watch, merge, seats or serve; sip --help tells of each";
+show, convert, gen, lines, widen, begin, watch, merge, seats, ask or serve; sip --help tells of \
+each";
 
 /// A stream.
 pub(crate) const STREAM: &str = "\
@@ -197,7 +198,7 @@ a frame";
 /// Bytes that no verifier sends there.
 pub(crate) const FRAME: &str = "\
 FROM is TO of the other side, and TO its FROM: sip help is for sip verify, sip helplook \
-for sip lookup, sip helpmom for sip moments, and sip serve for one who has a sketch";
+for sip lookup, sip helpmom for sip moments, and sip serve for sip ask";
 
 /// The stream failed.
 pub(crate) const FIRST: &str = "\
@@ -223,5 +224,5 @@ the other side has left";
 
 /// The verifier left.
 pub(crate) const LEFT: &str = "\
-the other side, as sip verify, sip lookup or sip moments, left before its end and says \
+the other side, as sip verify, sip lookup, sip moments or sip ask, left before its end and says \
 why";

@@ -9,9 +9,9 @@ ghost use Rattle.sip_words.specs.declared.command.Command.{Command as AnyCommand
 ghost use Rattle.sip_words.specs.Words.{IsRefusedAt, Spells};
 
 use crate::page_text::{
-    AUDIT_PART, BEGIN_PART, CONVERT_PART, GEN_PART, HELP, HELP_PART, HELPLOOK_PART, HELPMOM_PART,
-    LINES_PART, LOOKUP_PART, MERGE_PART, MOMENTS_PART, PANEL_PART, PLAY_PART, SEATS_PART,
-    SERVE_PART, SHOW_PART, VERIFY_PART, VERSION, WATCH_PART, WIDEN_PART,
+    ASK_PART, AUDIT_PART, BEGIN_PART, CONVERT_PART, GEN_PART, HELP, HELP_PART, HELPLOOK_PART,
+    HELPMOM_PART, LINES_PART, LOOKUP_PART, MERGE_PART, MOMENTS_PART, PANEL_PART, PLAY_PART,
+    SEATS_PART, SERVE_PART, SHOW_PART, VERIFY_PART, VERSION, WATCH_PART, WIDEN_PART,
 };
 use sip_ports::{PortStop, Sink, write_whole};
 use sip_verifier::{Port, Status};
@@ -60,7 +60,7 @@ fn part(verb: Verb) -> &'static str
     }
 }
 
-// The part that is about a command which keeps a sketch, if this word is the first of one.
+// The part that is about a command which keeps or asks a sketch, if this word is the first of one.
 fn sketch_part(word: &str) -> Option<&'static str>
     ensures part { (text : List ℕ) → IsSketchPart word.now text → option_copied result ≡ Some text }
     ensures only { IfSome result (λ text. IsSketchPart word.now text.now) }
@@ -70,6 +70,7 @@ fn sketch_part(word: &str) -> Option<&'static str>
         "watch" => Some(WATCH_PART),
         "merge" => Some(MERGE_PART),
         "seats" => Some(SEATS_PART),
+        "ask" => Some(ASK_PART),
         _ => None,
     }
 }

@@ -60,8 +60,11 @@ macro_rules! chosen {
     (seats $part:literal $($rest:literal)*) => {
         chosen!(merge $($rest)*)
     };
-    (serve $part:literal $($rest:literal)*) => {
+    (ask $part:literal $($rest:literal)*) => {
         chosen!(seats $($rest)*)
+    };
+    (serve $part:literal $($rest:literal)*) => {
+        chosen!(ask $($rest)*)
     };
     (page $($part:literal)*) => {
         concat!(
@@ -97,12 +100,14 @@ TO and RECORD are made where there is nothing of that name, and emptied where
 there is a file. No other file is changed. Where TO or RECORD is the same file
 as STREAM, SEED, FROM or the other of the two, under whatever name, it is not
 opened: it keeps what it has, and the command fails there. So does sip serve
-where STORED is FROM. A FIFO, or a device as /dev/null, may stand at several
+where STORED is FROM, and sip ask where TO is SKETCH or one of the two files
+that stand beside it. A FIFO, or a device as /dev/null, may stand at several
 words.
 
 SKETCH is replaced whole: a run that is killed leaves it as it was, or as it was
 stored. Beside it stand SKETCH.lock, which one run has at a time, and for a
-moment SKETCH.new.
+moment SKETCH.new. A copy of it brings used seats back: keep none, not as a
+backup either.
 
 KEEPING THE SEED
 
@@ -122,7 +127,8 @@ LIMITS
            bytes has items below 2^32: for greater ones write wide records or
            lines.
   queries  A run has 1 to 16 queries, lookups or moments, which stand among its
-           words: they are known before the stream is read.
+           words: they are known before the stream is read, but for sip ask,
+           whose seats are.
   answers  The entries from LO to HI that are not 0 are 65536 at most, and so is
            the side's total divided by T, which for a share is that part of the
            total.
@@ -179,7 +185,8 @@ that begins with sip: hint: and stands alone.
       What FROM brings to a helper is from byte N on nothing that its other side
       sends there. FROM and TO are those of the other side, the other way round:
       of sip verify for sip help, of sip lookup for sip helplook, of sip moments
-      for sip helpmom, and of one who has a sketch for sip serve.
+      for sip helpmom, and of sip ask for sip serve. Or it brings to sip ask
+      something else than a sip serve says first.
 
   sip: read fault on FILE, sip: write fault on FILE
       The file could not be opened, read or written: first is STREAM or STORED,
@@ -191,7 +198,8 @@ that begins with sip: hint: and stands alone.
       left.
 
   sip: peer closed
-      The other side left the helper before its farewell, and says why itself.
+      The other side left the helper before its farewell, or sip ask before it
+      had said what it holds, and says why itself.
 
   sip: progress: N MiB of STREAM read, M records
   sip: progress: waiting for the other side at FILE
@@ -232,6 +240,25 @@ that begins with sip: hint: and stands alone.
 
   sip: sketch is busy
       Another run has SKETCH: do it again later.
+
+  sip: sketch is not whole
+      Not all parts are in: only the sum of all is asked, which sip merge makes.
+
+  sip: query K does not fit
+      An item of question K, counted from 1, is not below 2^DEPTH of the sketch.
+
+  sip: query K on a side with negatives
+      heavy and share are not asked of a side that had a number below 0: they
+      are right only where no entry is below 0.
+
+  sip: no seat for query K
+      All seats that serve question K, counted from 1, are used, or taken by the
+      questions before it. Nothing was asked.
+
+  sip: helper holds N A B F, sketch N A B F
+      The helper has another stream than the sketch: N records, weights A and B
+      of the sides, and fingerprint F. No seat was used. Where its N is less it
+      has not all records yet.
 
   sip: out of memory
       Memory ran out. A helper keeps each item that is not 0, and sip verify an
@@ -282,10 +309,11 @@ STATUS
      stream, a transcript or a sketch was written to its end
   1  a reply of the helper was rejected, or in a panel one of each helper
   2  the words are no command
-  3  the stream, the seed, the transcript, a sketch or a frame of the verifier
+  3  the stream, the seed, the transcript, a sketch or a frame of the other side
      is not as it has to be, or more than 65536 entries could be T or more, or a
-     moment could be above what a claim has room for
-  4  a file, the link or the output failed, or the verifier left before its
+     moment could be above what a claim has room for; or a question of a sketch
+     has no seat or may not be asked, or its helper has another stream
+  4  a file, the link or the output failed, or the other side left before its
      farewell
   5  memory ran out
 "
@@ -352,6 +380,9 @@ pub const MERGE_PART: &str = text_of!(merge);
 /// What `sip seats --help` prints where no file has that name: the part of the page that is about
 /// `seats`.
 pub const SEATS_PART: &str = text_of!(seats);
+
+/// What `sip ask --help` prints: the part of the page that is about `ask`.
+pub const ASK_PART: &str = text_of!(ask);
 
 /// What `sip serve --help` prints: the part of the page that is about `serve`.
 pub const SERVE_PART: &str = text_of!(serve);

@@ -1,6 +1,6 @@
 //! The parts of the page about sketches, and about the helper with a file.
 
-// The parts before, and those about begin, watch, merge, seats and serve.
+// The parts before, and those about begin, watch, merge, seats, ask and serve.
 macro_rules! with_sketches {
     ($which:ident $($part:literal)*) => {
         chosen!(
@@ -65,10 +65,33 @@ macro_rules! with_sketches {
 
       sip seats web.sketch
 "
+            "  sip ask SKETCH FROM TO QUESTION..
+
+      Asks 1 to 16 questions about the stream that SKETCH was kept of, of a
+      helper that has it in a file, checks the replies and prints a line for
+      each answer. What is asked is chosen now: the stream went by before.
+
+      SKETCH    the file of a sketch that has all parts in
+      FROM      the file or FIFO that brings the helper's bytes, or - for
+                standard input
+      TO        the file or FIFO that takes ours
+      QUESTION  a QUERY of sip verify, a LOOKUP of sip lookup or a MOMENT of sip
+                moments, in any order, with items below 2^DEPTH of the sketch
+
+      First the helper says what it holds: where its stream is not that of the
+      sketch, nothing is asked and no seat is lost. Then each question takes the
+      first unused seat that serves it, which is used from then on, whatever
+      comes: the file says so before the question is sent. heavy and share are
+      not asked of a side that had a number below 0, and take no seat where T is
+      more than the whole side. The wait for the helper has no limit but one
+      that stands before the command, as timeout 60 sip ask .. does.
+
+      sip ask web.sketch from.fifo to.fifo sub:100:199 succ:7 moment:0:3
+"
             "  sip serve STORED FROM TO
 
-      Is a helper that has the stream in a file, and answers questions of every
-      kind about its first records, as many as the other side's sketch has.
+      Is the helper of sip ask: has the stream in a file, and answers questions
+      of every kind about its first records, as many as the sketch has.
 
       STORED  a file of records, or wide:PATH or text:PATH as for sip verify; it
               may grow between two talks

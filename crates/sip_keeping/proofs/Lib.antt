@@ -6,3 +6,5 @@ pub mod SeatsRead
 pub mod NamesRead
 pub mod SoFar
 pub mod Refusals
+pub mod AskRead
+pub mod AskNamed

@@ -4,4 +4,8 @@ pub mod SketchPlan
 pub mod Endings
 pub mod SketchHints
 pub mod SketchClause
+pub mod AskWords
+pub mod AskPlan
+pub mod AskEndings
+pub mod AskHints
 pub mod inside

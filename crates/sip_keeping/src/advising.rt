@@ -66,8 +66,8 @@ fn word_said(verb: SketchVerb, word: u32) -> &'static str
     }
 }
 
-// What is said of a file that is no sketch.
-fn bad_said(part: u32, offset: u64) -> &'static str
+/// What is said of a file that is no sketch.
+pub(crate) fn bad_said(part: u32, offset: u64) -> &'static str
     ensures { result.now ≡ bad_hint part offset }
 {
     if part != 0 {
@@ -153,8 +153,8 @@ fn look_said(look: SketchLook) -> Option<&'static str>
     }
 }
 
-// Writes a line behind that of the status, where that was written.
-fn say<K: Sink>(ending: Ending, line: &str, errors: &mut K) -> Ending
+/// Writes a line behind that of the status, where that was written.
+pub(crate) fn say<K: Sink>(ending: Ending, line: &str, errors: &mut K) -> Ending
     ensures same { result ≡ ending }
     ensures silent { OnErr ending.line (errors.new ≡ errors.old) }
     ensures written { OnOk ending.line ((sent : Result Unit AnyStop)

@@ -15,7 +15,7 @@ use sip_vector::Side;
 use sip_verifier::{Port, Status};
 
 /// No line is longer.
-const ROOM: usize = 128;
+pub(crate) const ROOM: usize = 192;
 
 /// The status of a command without a sketch that says the same, where there is one.
 pub fn shared_status(status: &SketchStatus) -> Option<Status>
@@ -83,8 +83,8 @@ fn put_port(gathered: &mut ArrayVec<u8, ROOM>, port: SketchPort)
     }
 }
 
-// A line of a text.
-fn plain(text: &[u8]) -> ArrayVec<u8, ROOM>
+/// A line of a text.
+pub(crate) fn plain(text: &[u8]) -> ArrayVec<u8, ROOM>
     requires { length text.now ≤ 64 }
     ensures { result.items ≡ text.now ++ 10 ∷ [] }
 {
@@ -94,8 +94,8 @@ fn plain(text: &[u8]) -> ArrayVec<u8, ROOM>
     gathered
 }
 
-// A line of a text, a number and another text.
-fn numbered(text: &[u8], number: u64, rest: &[u8]) -> ArrayVec<u8, ROOM>
+/// A line of a text, a number and another text.
+pub(crate) fn numbered(text: &[u8], number: u64, rest: &[u8]) -> ArrayVec<u8, ROOM>
     requires first { length text.now ≤ 40 }
     requires last { length rest.now ≤ 40 }
     ensures { result.items ≡ text.now ++ decimal number ++ rest.now ++ 10 ∷ [] }

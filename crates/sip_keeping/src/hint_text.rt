@@ -42,6 +42,20 @@ pub(crate) const PART: &str = "\
 sip: hint: PART is the file of a collector's sketch: there are 1 to 1024, in the order of their \
 parts\n";
 
+/// The end of a link that brings bytes, or standard input.
+pub(crate) const FROM: &str = "\
+sip: hint: FROM is the file or FIFO that brings the helper's bytes, or - for standard input\n";
+
+/// The end of a link that takes bytes.
+pub(crate) const TO: &str = "\
+sip: hint: TO is the file or FIFO that takes the bytes for the helper\n";
+
+/// A question.
+pub(crate) const QUESTION: &str = "\
+sip: hint: QUESTION is sub:LO:HI, range:SIDE:LO:HI, f2:SIDE, inner, heavy:SIDE:T, \
+share:SIDE:NUM:DEN, index:I, pred:I, succ:I or moment:SIDE:K, with K from 3 to 8, and there are 1 \
+to 16\n";
+
 /// No word.
 pub(crate) const END: &str = "\
 sip: hint: the command ends before it\n";
@@ -140,6 +154,40 @@ sip: hint: SKETCH has a part in that is not named: name all parts again\n";
 pub(crate) const FEWER: &str = "\
 sip: hint: SKETCH has more records than the parts that are named: one of them is an older file, \
 or was begun anew\n";
+
+// Why nothing is asked.
+
+/// Parts are missing.
+pub(crate) const NOT_WHOLE: &str = "\
+sip: hint: only a sketch is asked that all parts are in: sip merge makes the sum of them\n";
+
+/// An item outside the vector.
+pub(crate) const UNFIT: &str = "\
+sip: hint: items are below 2^DEPTH of the sketch, which sip seats shows\n";
+
+/// Large entries of a side with negatives.
+pub(crate) const SIGNED: &str = "\
+sip: hint: a record of that side added a number below 0, and heavy and share are right only if no \
+entry is below 0: nothing was asked, and no seat is used\n";
+
+/// No seat at all.
+pub(crate) const NO_SEATS: &str = "\
+sip: hint: all seats are used: begin a new sketch, with seats for what is to be asked\n";
+
+/// The helper has fewer records.
+pub(crate) const TOO_FEW: &str = "\
+sip: hint: the helper has fewer records than the sketch: its file has to have all of them first; \
+no seat is used\n";
+
+/// The helper has other records.
+pub(crate) const OTHERS: &str = "\
+sip: hint: the helper's first records are not those of the sketch, in whatever order: its file is \
+another one, or was changed; no seat is used\n";
+
+/// The helper said nothing.
+pub(crate) const SILENT: &str = "\
+sip: hint: the helper ended before it said what it holds, and says why itself; sip serve is the \
+one for sip ask; no seat is used\n";
 
 // Where a file failed.
 

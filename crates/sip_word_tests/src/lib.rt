@@ -3,6 +3,12 @@
 #![tactic(auto)]
 
 #[cfg(test)]
+mod ask_ending_tests;
+#[cfg(test)]
+mod ask_run_tests;
+#[cfg(test)]
+mod ask_words_tests;
+#[cfg(test)]
 mod command_tests;
 #[cfg(test)]
 mod exit_tests;

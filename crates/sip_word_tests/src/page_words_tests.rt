@@ -2,9 +2,9 @@
 
 use crate::page_tests::words_between;
 use sip_advice::{
-    AUDIT_PART, BEGIN_PART, CONVERT_PART, GEN_PART, HELP, HELP_PART, HELPLOOK_PART, HELPMOM_PART,
-    LINES_PART, LOOKUP_PART, MERGE_PART, MOMENTS_PART, PANEL_PART, PLAY_PART, SEATS_PART,
-    SERVE_PART, SHOW_PART, VERIFY_PART, VERSION, WATCH_PART, WIDEN_PART, page_of,
+    ASK_PART, AUDIT_PART, BEGIN_PART, CONVERT_PART, GEN_PART, HELP, HELP_PART, HELPLOOK_PART,
+    HELPMOM_PART, LINES_PART, LOOKUP_PART, MERGE_PART, MOMENTS_PART, PANEL_PART, PLAY_PART,
+    SEATS_PART, SERVE_PART, SHOW_PART, VERIFY_PART, VERSION, WATCH_PART, WIDEN_PART, page_of,
     page_without_file,
 };
 use sip_command_tests::case::Case;
@@ -84,6 +84,8 @@ const SKETCH_PARTS: &[Asked<'static>] = &[
     ("merge|-h", Some(MERGE_PART)),
     ("seats|--help", Some(SEATS_PART)),
     ("seats|-h", Some(SEATS_PART)),
+    ("ask|--help", Some(ASK_PART)),
+    ("ask|-h", Some(ASK_PART)),
     ("serve|--help", Some(SERVE_PART)),
     ("serve|-h", Some(SERVE_PART)),
 ];
@@ -201,11 +203,13 @@ const SAID_OF_SKETCHES: &[&str] = &[
     WATCH_PART,
     MERGE_PART,
     SEATS_PART,
+    ASK_PART,
     SERVE_PART,
     "\n  sip begin SKETCH SEED DEPTH PART/PARTS SEATS..\n",
     "\n  sip watch SKETCH STORED AT EVERY\n",
     "\n  sip merge SKETCH PART..\n",
     "\n  sip seats SKETCH\n",
+    "\n  sip ask SKETCH FROM TO QUESTION..\n",
     "\n  sip serve STORED FROM TO\n",
     "\n  sip: bad sketch at offset N, sip: bad part K at offset N\n",
     "\n  sip: sketch exists\n",
@@ -213,6 +217,11 @@ const SAID_OF_SKETCHES: &[&str] = &[
     "\n  sip: stream ends at record N\n",
     "\n  sip: part K: WHY\n",
     "\n  sip: sketch is busy\n",
+    "\n  sip: sketch is not whole\n",
+    "\n  sip: query K does not fit\n",
+    "\n  sip: query K on a side with negatives\n",
+    "\n  sip: no seat for query K\n",
+    "\n  sip: helper holds N A B F, sketch N A B F\n",
     "\n      Shape ",
     "\n      Whole ",
     "\n      UsedSeat ",

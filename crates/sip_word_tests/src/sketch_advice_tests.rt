@@ -88,7 +88,7 @@ const LOST: Noted = Noted {
 };
 
 // A line begins as each line of advice does, and has this in it; there is none where this is empty.
-fn is_line(bytes: &[u8], text: &str) -> bool {
+pub fn is_line(bytes: &[u8], text: &str) -> bool {
     if text.is_empty() {
         return bytes.is_empty();
     }
