@@ -180,7 +180,13 @@ fn obey_spelled(rt: &HostRuntime, words: &Words, command: &SketchCommand, tells:
     );
     // Another run that has the sketch may be about to store it.
     let is_left = status != SketchStatus::Busy && left_behind(rt, words).unwrap_or(false);
-    explained(rt, words, &noted, &status, SketchLook { is_shared, is_left })
+    explained(
+        rt,
+        words,
+        &noted,
+        &status,
+        SketchLook { is_shared, is_left },
+    )
 }
 
 /// The page's part about `seats`, where the words ask for it and nothing has the name of its file.
