@@ -18,12 +18,13 @@ _sip_kinds() {
         watch) echo file stored at record ;;
         merge) echo file file part ;;
         seats) echo file ;;
+        ask) echo file record file question ;;
         serve) echo stored record record ;;
     esac
 }
 
 _sip_commands='verify play panel help lookup helplook moments helpmom audit show convert gen lines widen
-    begin watch merge seats serve --help -h --progress --version -V'
+    begin watch merge seats ask serve --help -h --progress --version -V'
 _sip_queries='sub: range:0: range:1: f2:0 f2:1 inner heavy:0: heavy:1: share:0: share:1:'
 _sip_seats='entries: sums:0: sums:1: products: heavy:0: heavy:1:'
 _sip_lookups='index: pred: succ:'
@@ -42,6 +43,7 @@ _sip_candidates() {
         at) compgen -W '0 +' -- "$word" ;;
         lookup) compgen -W "$_sip_lookups" -- "$word" ;;
         moment) compgen -W "$_sip_moments" -- "$word" ;;
+        question) compgen -W "$_sip_queries $_sip_lookups $_sip_moments" -- "$word" ;;
         record)
             compgen -W - -- "$word"
             compgen -f -- "$word"
@@ -85,7 +87,7 @@ _sip() {
     else
         read -ra kinds <<<"$(_sip_kinds "${words[1]}")"
         kind=${kinds[place - 2]:-}
-        if [[ -z $kind && " ${kinds[*]}" =~ ' '(query|lookup|moment|seats|part)$ ]]; then kind=${BASH_REMATCH[1]}; fi
+        if [[ -z $kind && " ${kinds[*]}" =~ ' '(query|lookup|moment|question|seats|part)$ ]]; then kind=${BASH_REMATCH[1]}; fi
     fi
     mapfile -t COMPREPLY < <(_sip_candidates "$kind" "${words[place]}")
     if [[ ${#COMPREPLY[@]} -eq 1 && ${COMPREPLY[0]} == *: ]]; then

@@ -37,6 +37,8 @@ function __sip_kinds
             printf '%s\n' file file part
         case seats
             printf '%s\n' file
+        case ask
+            printf '%s\n' file end file question
         case serve
             printf '%s\n' stored end end
     end
@@ -51,7 +53,7 @@ function __sip_candidates
     set -l kind
     if test $place -le (count $kinds)
         set kind $kinds[$place]
-    else if contains -- "$kinds[-1]" query lookup moment seats part
+    else if contains -- "$kinds[-1]" query lookup moment question seats part
         set kind $kinds[-1]
     end
     switch "$kind"
@@ -91,6 +93,18 @@ function __sip_candidates
             printf '%s\n' "$front"{honest,skewed,mute}
         case depth
             seq 48
+        case question
+            for asked in query lookup moment
+                __sip_asked $asked
+            end
+        case query lookup moment
+            __sip_asked $kind
+    end
+end
+
+# What may ask a query, a lookup or a moment.
+function __sip_asked
+    switch $argv[1]
         case query
             printf '%s\n' sub:\t'LO:HI, the entries of side 0' \
                 range:{0,1}:\t'LO:HI, the sum of the entries' \
@@ -135,6 +149,7 @@ complete -c sip -n __sip_is_first -a begin -d 'begin a sketch'
 complete -c sip -n __sip_is_first -a watch -d 'add what is new of a log to a sketch'
 complete -c sip -n __sip_is_first -a merge -d 'add up sketches'
 complete -c sip -n __sip_is_first -a seats -d 'list the seats of a sketch'
+complete -c sip -n __sip_is_first -a ask -d 'ask a sketch what is chosen now'
 complete -c sip -n __sip_is_first -a serve -d 'be the helper with a stream in a file'
 complete -c sip -n __sip_is_first -s h -l help -d 'print the page of all commands'
 complete -c sip -n __sip_is_first -l progress -d 'say how far the command is'

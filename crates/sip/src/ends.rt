@@ -12,13 +12,13 @@ use std::io::{Stdin, Stdout};
 use std::os::unix::fs::{FileTypeExt, MetadataExt};
 
 /// What brings the other side's bytes.
-pub type FromEnd = Either<File, Stdin>;
+pub(crate) type FromEnd = Either<File, Stdin>;
 
 /// What takes ours.
-pub type ToEnd = Either<File, Stdout>;
+pub(crate) type ToEnd = Either<File, Stdout>;
 
 /// What brings the other side's bytes, or why there is nothing, which is noted.
-pub fn from_end(
+pub(crate) fn from_end(
     rt: &HostRuntime,
     words: &Words,
     opening: Opening,
@@ -35,7 +35,7 @@ pub fn from_end(
 }
 
 /// What takes our bytes, or why there is nothing, which is noted. A file is made or emptied.
-pub fn to_end(
+pub(crate) fn to_end(
     rt: &HostRuntime,
     words: &Words,
     opening: Opening,
@@ -61,19 +61,24 @@ fn file_of(rt: &HostRuntime, name: &str, pipes: bool) -> Option<FileId> {
     })
 }
 
+/// The regular file of this name, if it is one.
+pub(crate) fn named_file(rt: &HostRuntime, name: &str) -> Option<FileId> {
+    file_of(rt, name, false)
+}
+
 /// The regular file that an opening is on, if it is on one.
-pub fn regular(rt: &HostRuntime, words: &Words, opening: Opening) -> Option<FileId> {
-    file_of(rt, opening.name(words)?, false)
+pub(crate) fn regular(rt: &HostRuntime, words: &Words, opening: Opening) -> Option<FileId> {
+    named_file(rt, opening.name(words)?)
 }
 
 /// What the stream is on. Where standard input brings the other side's bytes, a pipe is told from
 /// others too, since that may be what standard input is.
-pub fn stream_file(rt: &HostRuntime, words: &Words, plan: &PortPlan) -> Option<FileId> {
+pub(crate) fn stream_file(rt: &HostRuntime, words: &Words, plan: &PortPlan) -> Option<FileId> {
     file_of(rt, plan.first.name(words)?, plan.from == Opening::Standard)
 }
 
 /// What brings the other side's bytes.
-pub fn from_file(rt: &HostRuntime, words: &Words, opening: Opening) -> Option<FileId> {
+pub(crate) fn from_file(rt: &HostRuntime, words: &Words, opening: Opening) -> Option<FileId> {
     match opening {
         Opening::Standard => file_of(rt, "/dev/stdin", true),
         Opening::Nothing | Opening::Spared | Opening::Path { .. } | Opening::Made { .. } => {
@@ -83,7 +88,7 @@ pub fn from_file(rt: &HostRuntime, words: &Words, opening: Opening) -> Option<Fi
 }
 
 /// What takes ours.
-pub fn to_file(rt: &HostRuntime, words: &Words, opening: Opening) -> Option<FileId> {
+pub(crate) fn to_file(rt: &HostRuntime, words: &Words, opening: Opening) -> Option<FileId> {
     match opening {
         Opening::Standard => file_of(rt, "/dev/stdout", false),
         Opening::Nothing | Opening::Spared | Opening::Path { .. } | Opening::Made { .. } => {

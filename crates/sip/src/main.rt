@@ -1,6 +1,7 @@
 //! `sip`: checks the answer of a helper that keeps a stream for you.
 #![tactic(auto)]
 
+mod asking;
 mod ends;
 mod named_files;
 mod sketching;
@@ -9,6 +10,8 @@ mod store;
 
 ghost use Rattle.std.specs.Prelude.{◌≡◌, ◌⊎◌, ◌↔◌, ℕ, List, IsTrue, IfSome, IsSome, None};
 ghost use Rattle.sip_verifier.specs.declared.status.Status.{Status as AnyStatus};
+ghost use Rattle.sip_ask.specs.declared.status.AskStatus.{AskStatus as AnyAskStatus};
+ghost use Rattle.sip_keeping.specs.AskEndings.{code_of_ask};
 ghost use Rattle.sip_keeping.specs.Endings.{code_of_sketch};
 ghost use Rattle.sip_sketch.specs.declared.status.SketchStatus.{SketchStatus as AnySketchStatus};
 ghost use Rattle.sip_words.specs.declared.command.Command.{Command as AnyCommand};
@@ -22,6 +25,7 @@ ghost use Rattle.sip_cli.specs.ToldStream.{stream_form, stream_teller, unread};
 ghost use Rattle.sip_cli.specs.ToldTalk.{IsScript, talk_teller, unsaid};
 ghost use Rattle.sip_words.specs.Words.{IsSpelled, Spells, IsRefusedAt};
 
+use crate::asking::ask_ending;
 use crate::ends::{FromEnd, ToEnd, from_end, from_file, regular, stream_file, to_end, to_file};
 use crate::sketching::sketch_ending;
 use crate::start::{stand_ins, words};
@@ -31,7 +35,7 @@ use sip_advice::{
     status_without_words, write_page,
 };
 use sip_cli::{Lines, OPENING_FROM, OPENING_TO, ToldLink, ToldSource, obey, panel, play};
-use sip_keeping::sketch_verb;
+use sip_keeping::{asks_sketch, sketch_verb};
 use sip_ports::{
     FileSink, FileSource, NullSink, Sink, Source, StderrSink, StdoutSink, TwoWayLink, write_whole,
 };
@@ -442,7 +446,7 @@ fn ended(rt: &HostRuntime, words: &Words, noted: &Noted, status: &Status) -> End
         .caution(noted, status, &mut errors)
 }
 
-/// Does what the words say of a command that keeps no sketch, and writes what went wrong.
+/// Does what the words say of a command without a sketch, and writes what went wrong.
 fn plain_ending(rt: &HostRuntime, words: &Words, tells: bool) -> Ending
     ensures { (status : AnyStatus) × (result.code ≡ code_of status) }
 {
@@ -455,6 +459,7 @@ fn plain_ending(rt: &HostRuntime, words: &Words, tells: bool) -> Ending
 /// that of a status.
 fn ending(rt: &HostRuntime) -> Ending
     ensures { ((status : AnySketchStatus) × (result.code ≡ code_of_sketch status))
+        ⊎ ((status : AnyAskStatus) × (result.code ≡ code_of_ask status))
         ⊎ ((status : AnyStatus) × (result.code ≡ code_of status)) }
 {
     match words(rt) {
@@ -462,6 +467,7 @@ fn ending(rt: &HostRuntime) -> Ending
             let (words, tells) = given.behind_progress();
             match sketch_verb(&words) {
                 Some(verb) => sketch_ending(rt, &words, verb, tells),
+                None if asks_sketch(&words) => ask_ending(rt, &words, tells),
                 None => plain_ending(rt, &words, tells),
             }
         }

@@ -117,7 +117,7 @@ fn file_count(command: &SketchCommand) -> u32 {
 
 /// Whether others than its owner can read the file of this number.
 #[inline(never)]
-fn is_shared(rt: &HostRuntime, words: &Words, number: u32) -> bool {
+pub(crate) fn is_shared(rt: &HostRuntime, words: &Words, number: u32) -> bool {
     let Some(name) = file_opening(number).name(words) else {
         return false;
     };
@@ -140,7 +140,7 @@ fn are_shared(rt: &HostRuntime, words: &Words, command: &SketchCommand) -> bool 
 /// Whether beside the sketch stands one that a run left which was killed; `None` where memory is
 /// refused.
 #[inline(never)]
-fn left_behind(rt: &HostRuntime, words: &Words) -> Option<bool> {
+pub(crate) fn left_behind(rt: &HostRuntime, words: &Words) -> Option<bool> {
     let path = file_opening(0).name(words)?;
     let beside = match rt.canonicalize(rt.alloc(), path) {
         Ok(name) => format!(in rt.alloc(); "{}.new", name.as_str()).ok()?,
@@ -205,7 +205,7 @@ fn page_behind(rt: &HostRuntime, words: &Words, command: &SketchCommand) -> Opti
 
 /// Writes a part of the page.
 #[inline(never)]
-fn paged(rt: &HostRuntime, words: &Words, text: &str) -> Ending
+pub(crate) fn paged(rt: &HostRuntime, words: &Words, text: &str) -> Ending
     ensures { (status : AnyOtherStatus) × (result.code ≡ code_of status) }
 {
     let status = write_page(text, &mut StdoutSink::new(io::writer(rt)));

@@ -4,24 +4,22 @@ use Rattle.std.specs.Prelude.{⊤, IsTrue, ◌&&◌, ◌||◌, ◌==◌, Result,
 use Rattle.std.specs.List.{AllZip, list_any}
 use Rattle.std.proofs.lemmas.Bool.{and_parts, cases_Bool, eqb-false, eqb-true, not-true, or_parts}
 use Rattle.std.proofs.lemmas.List.{drop_more}
-use Rattle.sip_vector.specs.Steps.{◌>>=◌, needs}
 use Rattle.sip_sketch.specs.Fields.{on}
-use Rattle.sip_sketch.specs.Joining.{is_whole}
 use Rattle.sip_sketch.specs.Sketches.{SeatValues, SketchValues, code_of}
 use Rattle.sip_sketch.specs.declared.kind.SeatKind.{SeatKind}
 use Rattle.sip_sketch.specs.declared.kind.SeatKind.TheVariants as kinds
 use Rattle.sip_sketch.proofs.Apart.{kinds_same}
 use Rattle.sip_questions.specs.declared.question.Question.{Question}
 use Rattle.sip_ask.specs.Asking.{marked_by}
-use Rattle.sip_ask.specs.Choosing.{all_pass, choice, fits, fits_at, free_from, is_free, is_high_of, is_idle, is_place, is_signed, is_wide_of, kind_for, seat_for, seats_for, small_at}
+use Rattle.sip_ask.specs.Choosing.{choice, fits, free_from, is_free, is_high_of, is_idle, is_place, is_signed, is_wide_of, kind_for, seat_for, seats_for, small_at}
 use Rattle.sip_ask.specs.Turns.{block_at}
 use Rattle.sip_ask.specs.Marking.{is_used_at, used_at}
 use Rattle.sip_ask.specs.inside.Seating.{IsTested, Serves, Takes}
 use Rattle.sip_ask.specs.inside.Steps.{asks_at}
 use Rattle.sip_ask.specs.declared.status.AskStatus.{AskStatus}
 use Rattle.sip_ask.specs.declared.status.AskStatus.TheVariants as statuses
-use Rattle.sip_ask.proofs.Marks.{length-used}
-use Rattle.sip_ask.proofs.Tested.{all-fitting, bound, passed, seats-unsigned, small-low, small-narrow}
+use Rattle.sip_sketch.proofs.Marked.{length-used}
+use Rattle.sip_ask.proofs.Tested.{all-fitting, bound, chosen-tried, passed, seats-unsigned, small-low, small-narrow}
 
 -- ---- a free seat
 
@@ -99,37 +97,17 @@ pub record IsChosen (s : SketchValues) (asked : List Question) (places : List (O
   pub take : AllZip (Takes s) asked places
   pub tested : All (IsTested s.tally) asked
 
--- the seats were chosen
-chosen-seats : (s : SketchValues) (asked : List Question) (places : List (Option ℕ)) → choice s asked ≡ Ok places
-    → (found : List (Option ℕ)) × (seats_for s [] asked ≡ Ok found) × (found ≡ places)
-chosen-seats s asked places e =
-    let last : List (Option ℕ) → Result (List (Option ℕ)) AskStatus = λ found. all_pass (small_at s.tally) 1 asked >>= λ _. Ok found in
-    let third : Unit {0} → Result (List (Option ℕ)) AskStatus = λ _. seats_for s [] asked >>= last in
-    let second : Unit {0} → Result (List (Option ℕ)) AskStatus = λ _. all_pass (fits_at s.depth) 1 asked >>= third in
-    let whole = bound (needs (is_whole s.parts) statuses.NotWhole) second places e in
-    let fitted = bound (all_pass (fits_at s.depth) 1 asked) third places whole.2 in
-    let seated = bound (seats_for s [] asked) last places fitted.2 in
-    let small = bound (all_pass (small_at s.tally) 1 asked) (λ _. Ok seated.0) places seated.2 in
-    (seated.0, seated.1, let e : Ok seated.0 ≡ Ok places = small.2 in cc)
-
 pub chosen-is : (s : SketchValues) (asked : List Question) (places : List (Option ℕ)) → choice s asked ≡ Ok places → IsChosen s asked places
 chosen-is s asked places e =
-    let last : List (Option ℕ) → Result (List (Option ℕ)) AskStatus = λ found. all_pass (small_at s.tally) 1 asked >>= λ _. Ok found in
-    let third : Unit {0} → Result (List (Option ℕ)) AskStatus = λ _. seats_for s [] asked >>= last in
-    let second : Unit {0} → Result (List (Option ℕ)) AskStatus = λ _. all_pass (fits_at s.depth) 1 asked >>= third in
-    let whole = bound (needs (is_whole s.parts) statuses.NotWhole) second places e in
-    let fitted = bound (all_pass (fits_at s.depth) 1 asked) third places whole.2 in
-    let seated = bound (seats_for s [] asked) last places fitted.2 in
-    let small = bound (all_pass (small_at s.tally) 1 asked) (λ _. Ok seated.0) places seated.2 in
-    let same : seated.0 ≡ places = let e : Ok seated.0 ≡ Ok places = small.2 in cc in
-    let seats = seats-take s [] asked seated.0 seated.1 in
+    let tried = chosen-tried s asked places e in
+    let seats = seats-take s [] asked places tried.seated in
     record {
-      fit = all-fitting s.depth asked fitted.1;
-      take = subst (AllZip (Takes s) asked) (sym seats.1 ∙ same) seats.2;
+      fit = all-fitting s.depth asked tried.fit;
+      take = subst (AllZip (Takes s) asked) (sym seats.1) seats.2;
       tested =
-          let unsigned = seats-unsigned s [] asked seated.0 seated.1 in
-          let narrow = passed (small_at s.tally) (λ q. is_wide_of s.tally q ≡ false) (small-narrow s.tally) 1 asked small.0 small.1 in
-          let low = passed (small_at s.tally) (λ q. is_high_of s.tally q ≡ false) (small-low s.tally) 1 asked small.0 small.1 in
+          let unsigned = seats-unsigned s [] asked places tried.seated in
+          let narrow = passed (small_at s.tally) (λ q. is_wide_of s.tally q ≡ false) (small-narrow s.tally) 1 asked tried.tested tried.small in
+          let low = passed (small_at s.tally) (λ q. is_high_of s.tally q ≡ false) (small-low s.tally) 1 asked tried.tested tried.small in
           λ k d lt. record { unsigned = unsigned k d lt; narrow = narrow k d lt; low = low k d lt };
     }
 
@@ -262,5 +240,5 @@ seats-free s now taken (q ∷ asked) places b e =
 
 pub chosen-free : (s : SketchValues) (asked : List Question) (places : List (Option ℕ)) → choice s asked ≡ Ok places → AreFree s places
 chosen-free s asked places e =
-    let free = seats-free s s [] asked (chosen-seats s asked places e).0 (record { same = refl; unused = λ k is none. is }) (chosen-seats s asked places e).1 in
-    subst (AreFree s) (sym free.1 ∙ (chosen-seats s asked places e).2) free.2
+    let free = seats-free s s [] asked places (record { same = refl; unused = λ k is none. is }) (chosen-tried s asked places e).seated in
+    subst (AreFree s) (sym free.1) free.2

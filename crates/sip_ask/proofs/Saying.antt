@@ -11,7 +11,8 @@ use Rattle.sip_sketch.specs.Sketches.{IsSketch, SketchValues}
 use Rattle.sip_ask.specs.Marking.{HasUsed, is_used_at, mark}
 use Rattle.sip_ask.specs.Turns.{AreTurns, Turn, places_said, turn_events}
 use Rattle.sip_ask.proofs.Contents.{Leaves, leaves-append, leaves-may_hold, leaves-of_link, leaves-steps, leaves-take}
-use Rattle.sip_ask.proofs.Marks.{marked-is, used-here, used-stays}
+use Rattle.sip_sketch.proofs.Marked.{marked-is}
+use Rattle.sip_ask.proofs.Marks.{used-here, used-stays}
 
 -- ---- lists
 

@@ -1,5 +1,5 @@
 -- Where seats are chosen, all that a count asks of the questions was tested.
-use Rattle.std.proofs.Common.{◌≡◌, ℕ, suc, ◌+◌, Bool, true, false, not, cond, List, [], ◌∷◌, ◌++◌, length, get_or, All, Option, Some, None, refl, sym, ap, ◌∙◌}
+use Rattle.std.proofs.Common.{◌≡◌, ℕ, suc, ◌+◌, Bool, true, false, not, cond, List, [], ◌∷◌, ◌++◌, length, get_or, All, Option, Some, None, refl, sym, ap, subst, ◌∙◌}
 use Rattle.std.specs.Prelude.{IsTrue, Result, Ok, Err}
 use Rattle.std.proofs.lemmas.Bool.{not-true}
 use Rattle.std.proofs.lemmas.List.Elements.{All-cons, All-nil}
@@ -72,10 +72,17 @@ small-low t number q y e =
     let b = bound (needs (not (is_wide_of t q)) (statuses.TooWide number)) (λ _. needs (not (is_high_of t q)) (statuses.TooHigh number)) y e in
     not-true (is_high_of t q) (needed (not (is_high_of t q)) (statuses.TooHigh number) y b.2)
 
-pub chosen-counted : (s : SketchValues) (stream : List Update) (version : Version) (asked : List Question) (places : List (Option ℕ))
-    → Stands stream s → choice s asked ≡ Ok places
-    → All (λ q. IsCounted s.depth (record { version = version; stream = stream; question = q })) asked
-chosen-counted s stream version asked places stands e =
+-- All that is tested before these places are chosen: each question fits, these are the places, and
+-- none may have too great an answer.
+pub record IsTried (s : SketchValues) (asked : List Question) (places : List (Option ℕ)) : Type 0 where
+  pub fitted : Unit {0}
+  pub fit : all_pass (fits_at s.depth) 1 asked ≡ Ok fitted
+  pub seated : seats_for s [] asked ≡ Ok places
+  pub tested : Unit {0}
+  pub small : all_pass (small_at s.tally) 1 asked ≡ Ok tested
+
+pub chosen-tried : (s : SketchValues) (asked : List Question) (places : List (Option ℕ)) → choice s asked ≡ Ok places → IsTried s asked places
+chosen-tried s asked places e =
     let last : List (Option ℕ) → Result (List (Option ℕ)) AskStatus = λ found. all_pass (small_at s.tally) 1 asked >>= λ _. Ok found in
     let third : Unit {0} → Result (List (Option ℕ)) AskStatus = λ _. seats_for s [] asked >>= last in
     let second : Unit {0} → Result (List (Option ℕ)) AskStatus = λ _. all_pass (fits_at s.depth) 1 asked >>= third in
@@ -83,9 +90,17 @@ chosen-counted s stream version asked places stands e =
     let fitted = bound (all_pass (fits_at s.depth) 1 asked) third places whole.2 in
     let seated = bound (seats_for s [] asked) last places fitted.2 in
     let small = bound (all_pass (small_at s.tally) 1 asked) (λ _. Ok seated.0) places seated.2 in
-    let fit = passed (fits_at s.depth) (λ q. IsTrue (fits s.depth q)) (λ number q y. needed (fits s.depth q) (statuses.Unfit number) y) 1 asked fitted.0 fitted.1 in
-    let unsigned = seats-unsigned s [] asked seated.0 seated.1 in
-    let low = passed (small_at s.tally) (λ q. is_high_of s.tally q ≡ false) (small-low s.tally) 1 asked small.0 small.1 in
+    let same : seated.0 ≡ places = let e : Ok seated.0 ≡ Ok places = small.2 in cc in
+    record { fitted = fitted.0; fit = fitted.1; seated = subst (λ l. seats_for s [] asked ≡ Ok l) same seated.1; tested = small.0; small = small.1 }
+
+pub chosen-counted : (s : SketchValues) (stream : List Update) (version : Version) (asked : List Question) (places : List (Option ℕ))
+    → Stands stream s → choice s asked ≡ Ok places
+    → All (λ q. IsCounted s.depth (record { version = version; stream = stream; question = q })) asked
+chosen-counted s stream version asked places stands e =
+    let tried = chosen-tried s asked places e in
+    let fit = passed (fits_at s.depth) (λ q. IsTrue (fits s.depth q)) (λ number q y. needed (fits s.depth q) (statuses.Unfit number) y) 1 asked tried.fitted tried.fit in
+    let unsigned = seats-unsigned s [] asked places tried.seated in
+    let low = passed (small_at s.tally) (λ q. is_high_of s.tally q ≡ false) (small-low s.tally) 1 asked tried.tested tried.small in
     λ k d lt. record {
       legal = stands.legal;
       fitting = fit k d lt;

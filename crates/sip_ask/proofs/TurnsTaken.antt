@@ -40,7 +40,7 @@ use Rattle.sip_ask.specs.declared.asking.Asking.{Asking}
 use Rattle.sip_ask.specs.inside.Seating.{Takes}
 use Rattle.sip_ask.specs.inside.Steps.{IsIdle, IsMarked, IsNext, IsReportStop, SaysNone, Stores, asks_at, behind_turn}
 use Rattle.sip_ask.proofs.Chosen.{asks-none, asks-some, chosen-is}
-use Rattle.sip_ask.proofs.Marks.{length-used}
+use Rattle.sip_sketch.proofs.Marked.{length-used}
 
 -- ---- a marked sketch
 

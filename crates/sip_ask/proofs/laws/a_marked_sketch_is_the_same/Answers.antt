@@ -1,4 +1,5 @@
-use Rattle.sip_ask.proofs.Marks.{marked-is, other-same, used-here, used-keeps}
+use Rattle.sip_sketch.proofs.Marked.{marked-is}
+use Rattle.sip_ask.proofs.Marks.{other-same, used-here, used-keeps}
 use Rattle.sip_ask.proofs.laws.a_marked_sketch_is_the_same.Goals as goal
 
 pub returns-clause-is : goal.returns-clause-is
