@@ -1,8 +1,5 @@
 -- The words ask these questions.
 use Rattle.sip.proofs.asking.obey_named.Goals as goal
 
-pub ask_ports-requires : goal.ask_ports-requires
-ask_ports-requires c = (c.args.asked.now.items, c.requires)
-
 pub obey_ask-requires : goal.obey_ask-requires
 obey_ask-requires c = (c.args.words.now, c.requires)
