@@ -9,7 +9,7 @@ ghost use Rattle.sip_verifier.specs.declared.status.Status.{Status as AnyOtherSt
 
 use crate::ends::{FromEnd, ToEnd, from_end, from_file, named_file, regular, to_end, to_file};
 use crate::say;
-use crate::sketching::{is_shared, left_behind, paged};
+use crate::sketching::{is_shared, left_behind, paged, put_away};
 use sip_advice::{Ending, Noted, Unopened, finish, page_of};
 use sip_ask::AskStatus;
 use sip_cli::{OPENING_FROM, OPENING_TO};
@@ -123,7 +123,9 @@ fn obey_named(
     noted.to = Unopened::taken(asks.to, plan.to);
     let mut desk = desk(rt, words, &plan, noted, tells)?;
     let mut report = StdoutSink::new(io::writer(rt));
-    Some(obey_ask(rt.alloc(), asked, &mut *desk, &mut report))
+    let status = obey_ask(rt.alloc(), asked, &mut *desk, &mut report);
+    put_away(desk);
+    Some(status)
 }
 
 /// Which seats the sketch has left, where it can be read.
@@ -170,6 +172,7 @@ fn refused(rt: &HostRuntime, usage: Usage) -> Ending
 
 /// Does what words say whose first is `ask`, and writes what went wrong and what can be done about
 /// it. The code is that of a status.
+#[inline(never)]
 pub(crate) fn ask_ending(rt: &HostRuntime, words: &Words, tells: bool) -> Ending
     ensures { ((status : AnyStatus) × (result.code ≡ code_of_ask status))
         ⊎ ((status : AnyOtherStatus) × (result.code ≡ code_of status)) }

@@ -77,6 +77,13 @@ fn desk(rt: &HostRuntime, words: &Words) -> Option<Box<SketchDesk>> {
     Box::new(rt.alloc(), desk).ok()
 }
 
+/// Drops a desk. What a box has is moved to the stack before it is dropped, so this is a call of
+/// its own too.
+#[inline(never)]
+pub(crate) fn put_away<D: Drop>(desk: Box<D>) {
+    drop(desk);
+}
+
 /// Opens the files that the words name, and does the command that they spell. A file that does not
 /// open is a port whose calls fail. `None` where memory is refused to a port.
 #[inline(never)]
@@ -96,7 +103,7 @@ fn obey_named(
     let mut second = seed(rt, words, command, noted)?;
     let mut desk = desk(rt, words)?;
     let mut files = NamedFiles::new(*rt, words);
-    Some(obey_sketch(
+    let status = obey_sketch(
         rt.alloc(),
         command,
         &mut *first,
@@ -104,7 +111,9 @@ fn obey_named(
         &mut *desk,
         &mut files,
         &mut StdoutSink::new(io::writer(rt)),
-    ))
+    );
+    put_away(desk);
+    Some(status)
 }
 
 /// How many files of sketches a command has that are read.
