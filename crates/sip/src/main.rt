@@ -447,7 +447,6 @@ fn ended(rt: &HostRuntime, words: &Words, noted: &Noted, status: &Status) -> End
 }
 
 /// Does what the words say of a command without a sketch, and writes what went wrong.
-#[inline(never)]
 fn plain_ending(rt: &HostRuntime, words: &Words, tells: bool) -> Ending
     ensures { (status : AnyStatus) × (result.code ≡ code_of status) }
 {
