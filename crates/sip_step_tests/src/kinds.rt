@@ -87,11 +87,7 @@ pub(crate) fn begun(alloc: Global, kind: Kind) -> Result<Option<Posing>, Fail>
 }
 
 // Feeds bytes, and sends what is due whenever something is. Answers how many bytes were taken.
-fn pass(
-    posing: &mut Posing,
-    bytes: &[u8],
-    link: &mut MemoryLink,
-) -> Result<usize, PortStop>
+fn pass(posing: &mut Posing, bytes: &[u8], link: &mut MemoryLink) -> Result<usize, PortStop>
     requires begun { HasBegun posing.old }
     ensures begun { HasBegun posing.new }
 {

@@ -9,7 +9,7 @@ ghost use Rattle.sip_steps.specs.Served.{HasBegun};
 use crate::facts::expect;
 use crate::kinds::{Kind, begun};
 use crate::kinds_tests::{
-    CUBES, ENTRY, F2, FOUND_2, HEAVY_4, LAST, LEAVES, NINE, NODES, NO_SIBLINGS, RANGE, REVEAL, SIX,
+    CUBES, ENTRY, F2, FOUND_2, HEAVY_4, LAST, LEAVES, NINE, NO_SIBLINGS, NODES, RANGE, REVEAL, SIX,
     SQUARES, SUB_1_2, SUM, THREES,
 };
 use crate::pieces::{Row, cut_in_two, in_pieces};
@@ -69,9 +69,26 @@ const ROWS: &[TalkRow] = &[
         ],
         status: HelpStatus::Served,
         sent: &[
-            &ENTRY, &NO_SIBLINGS, &FOUND_2, &ENTRY, &NO_SIBLINGS, &SUM, &LAST, &SQUARES, &NINE,
-            &FOUND_1, &LEFT_3, &RIGHT_7, &LEAVES, &NODES, &FOUND_0, &ENTRY_0, &NO_SIBLINGS,
-            &RIGHT_7, &SIX, &THREES,
+            &ENTRY,
+            &NO_SIBLINGS,
+            &FOUND_2,
+            &ENTRY,
+            &NO_SIBLINGS,
+            &SUM,
+            &LAST,
+            &SQUARES,
+            &NINE,
+            &FOUND_1,
+            &LEFT_3,
+            &RIGHT_7,
+            &LEAVES,
+            &NODES,
+            &FOUND_0,
+            &ENTRY_0,
+            &NO_SIBLINGS,
+            &RIGHT_7,
+            &SIX,
+            &THREES,
         ],
     },
     TalkRow {
@@ -179,7 +196,11 @@ fn are_answered(alloc: Global, mut sizes: Sizes) -> Result<[bool; 2], Fail> {
 #[test]
 fn questions_of_one_talk_in_pieces_of_one_size(rt: HostRuntime) -> Result<(), Fail> {
     for size in [1usize, 2, 7, 1000].iter() {
-        expect(&rt, "one size", &are_answered(rt.alloc(), Sizes::Same(*size))?);
+        expect(
+            &rt,
+            "one size",
+            &are_answered(rt.alloc(), Sizes::Same(*size))?,
+        );
     }
     Ok(())
 }

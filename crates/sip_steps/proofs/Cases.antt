@@ -1,5 +1,5 @@
 -- A question by its kind, behind a call.
-use Rattle.std.proofs.Common.{◌≡◌, List, Result, Ok, Err, sym, ap, subst, ◌∙◌}
+use Rattle.std.proofs.Common.{◌≡◌, List, Result, Ok, Err, sym, subst}
 use Rattle.std.specs.Prelude.{OnErr, OnOk}
 use Rattle.sip_ports.specs.declared.port.TalkEvent.{TalkEvent}
 use Rattle.sip_steps.specs.declared.posing.Posing.{Posing}

@@ -1,9 +1,8 @@
 -- What a question that is posed without a link comes to is what one over a link comes to.
-use Rattle.std.proofs.Common.{◌≡◌, ℕ, zero, suc, ◌+◌, ◌≤◌, ◌<◌, ◌++◌, true, false, if◌then◌else◌, None, Some, Option, Result, Ok, Err, List, [], ◌∷◌, length, take, min, refl, sym, ap, subst, ◌∙◌, inr, arith, length-append}
+use Rattle.std.proofs.Common.{◌≡◌, ℕ, zero, suc, ◌++◌, true, None, Some, Option, Result, Ok, Err, List, [], ◌∷◌, length, take, min, refl, sym, ap, subst, ◌∙◌, inr, arith, length-append}
 use Rattle.std.specs.Prelude.{IfOk}
 use Rattle.sip_field.specs.Moduli.{m61_modulus}
 use Rattle.sip_ports.specs.declared.port.TalkEvent.{TalkEvent}
-use Rattle.sip_vector.specs.declared.query.Query.{Query}
 use Rattle.sip_vector.specs.declared.update.Entry.{Entry}
 use Rattle.sip_vector.specs.declared.update.Update.{Update}
 use Rattle.sip_vector.specs.Answers.{Answer}
@@ -11,7 +10,6 @@ use Rattle.sip_wire.specs.declared.message.Message.{Message}
 use Rattle.sip_wire.specs.declared.message.Message.TheVariants as messages
 use Rattle.sip_wire.specs.declared.message.Reason.TheVariants as reasons
 use Rattle.sip_wire.specs.Frames.{frame_bytes}
-use Rattle.sip_replies.specs.declared.asking.AskStop.TheVariants as stops
 use Rattle.sip_replies.specs.declared.check.Said.TheVariants as saids
 use Rattle.sip_replies.specs.declared.turn.Stage.{Stage}
 use Rattle.sip_replies.specs.declared.turn.Stage.TheVariants as stages
@@ -19,13 +17,12 @@ use Rattle.sip_replies.specs.Asking as general
 use Rattle.sip_replies.specs.Feeding.{IsWaiting, Means}
 use Rattle.sip_replies.specs.Following.{is_hearing}
 use Rattle.sip_replies.specs.Protocols.{Phase, Protocol}
-use Rattle.sip_replies.specs.Replies.{Fault, IsMissing, IsUnfinished, run}
+use Rattle.sip_replies.specs.Replies.{Fault, IsUnfinished}
 use Rattle.sip_replies.specs.Talks.{asked_unless}
 use Rattle.sip_replies.proofs.Fed.{Means-fed}
 use Rattle.sip_replies.proofs.Turns.{same_fault}
 use Rattle.sip_verifier.specs.Asking as queries
 use Rattle.sip_verifier.specs.inside.Judging.{found_in, verdict_of}
-use Rattle.sip_verifier.specs.inside.Protocols.{IsProtocol}
 use Rattle.sip_verifier.specs.Questions.{IsDue}
 use Rattle.sip_verifier.proofs.QueryAsked.{asks}
 use Rattle.sip_moments.specs.declared.moment.Moment.{Moment}
@@ -41,7 +38,7 @@ use Rattle.sip_steps.specs.declared.posing.Posing.{Posing}
 use Rattle.sip_steps.specs.declared.posing.Posing.TheVariants as kinds
 use Rattle.sip_steps.specs.Asked.{pairs_of}
 use Rattle.sip_steps.specs.Openings.{IsOf, Subject, message_of}
-use Rattle.sip_steps.specs.Posed.{ComesOf, HasBegun, IsOfMoment, IsOfQuery, IsPosed, IsTalk, Waits, WaitsFor, asked_at, pairs_at, stage_at}
+use Rattle.sip_steps.specs.Posed.{ComesOf, HasBegun, IsOfMoment, IsOfQuery, IsPosed, IsTalk, WaitsFor, asked_at, pairs_at, stage_at}
 
 -- what is posed has begun
 pub has_begun : {E : Type 0} (s : Subject) (result : Result Posing E) → IfOk result (IsPosed s []) → IfOk result HasBegun

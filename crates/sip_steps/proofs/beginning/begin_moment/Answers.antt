@@ -1,5 +1,5 @@
 -- A moment takes no places, and the events are a talk by the protocol of the power.
-use Rattle.std.proofs.Common.{◌≡◌, ◌%◌, ◌^◌, [], List, ℕ, refl, subst, arith}
+use Rattle.std.proofs.Common.{◌%◌, ◌^◌, [], List, ℕ, refl, subst, arith}
 use Rattle.sip_field.specs.Elements.{m61_number}
 use Rattle.sip_field.specs.Moduli.{m61_modulus}
 use Rattle.sip_moments.specs.Asking.{MomentStands, phase_of}
@@ -17,9 +17,11 @@ pub begin-requires-clause-stood : goal.begin-requires-clause-stood
 begin-requires-clause-stood c = (moment_asked c.args.version m61_modulus c.args.moment.degree ((m61_number c.args.extension ^ c.args.moment.degree) % m61_modulus), refl, c.start-check.ensures.stands c.args.version _)
 
 pub returns : goal.returns
-returns c = record { posed = λ depth running kind.
-    let moment = c.args.moment in
-    let power = (m61_number c.args.extension ^ moment.degree) % m61_modulus in
-    let asked = moment_asked c.args.version m61_modulus moment.degree power in
-    let talk = c.in_ok-asking.ensures.asked asked refl (c.start-check.ensures.stands c.args.version _) in
-    (moment, power, subst (λ (b : List ℕ). IsAsked (moment_protocol asked) (MomentStands asked) phase_of message_of (ask_of moment) b [] c.in_ok-asking.asking) c.start-check.ensures.block talk, kind); }
+returns c = record {
+  posed = λ depth running kind.
+      let moment = c.args.moment in
+      let power = (m61_number c.args.extension ^ moment.degree) % m61_modulus in
+      let asked = moment_asked c.args.version m61_modulus moment.degree power in
+      let talk = c.in_ok-asking.ensures.asked asked refl (c.start-check.ensures.stands c.args.version _) in
+      (moment, power, subst (λ (b : List ℕ). IsAsked (moment_protocol asked) (MomentStands asked) phase_of message_of (ask_of moment) b [] c.in_ok-asking.asking) c.start-check.ensures.block talk, kind);
+}

@@ -1,5 +1,5 @@
 -- The question of each kind is judged by the protocol of the stream whose numbers these are.
-use Rattle.std.proofs.Common.{◌≡◌, ℕ, [], sym, ap, subst, rules, to_z, of_z, w64}
+use Rattle.std.proofs.Common.{◌≡◌, [], sym, ap, subst, rules, to_z, of_z, w64}
 use Rattle.std.specs.Prelude.{IfOk}
 use Rattle.sip_field.specs.Elements.{m61_number}
 use Rattle.sip_vector.specs.Answers.{Fits}
@@ -18,13 +18,13 @@ pub begin_entries-requires-clause-fits : goal.begin_entries-requires-clause-fits
 begin_entries-requires-clause-fits c = opening_fits c.args.version c.args.depth (openings.Query c.args.query) c.requires.can
 
 pub begin_sum-requires : goal.begin_sum-requires
-begin_sum-requires c = record { fits = opening_fits c.args.version c.args.depth (openings.Query c.args.query) c.requires.can; }
+begin_sum-requires c = record { fits = opening_fits c.args.version c.args.depth (openings.Query c.args.query) c.requires.can }
 
 pub begin_sum-requires-in-F2-Point : goal.begin_sum-requires-in-F2-Point
-begin_sum-requires-in-F2-Point c = record { fits = opening_fits c.args.version c.args.depth (openings.Query c.args.query) c.requires.can; }
+begin_sum-requires-in-F2-Point c = record { fits = opening_fits c.args.version c.args.depth (openings.Query c.args.query) c.requires.can }
 
 pub begin_sum-requires-in-Inner-Points : goal.begin_sum-requires-in-Inner-Points
-begin_sum-requires-in-Inner-Points c = record { fits = opening_fits c.args.version c.args.depth (openings.Query c.args.query) c.requires.can; }
+begin_sum-requires-in-Inner-Points c = record { fits = opening_fits c.args.version c.args.depth (openings.Query c.args.query) c.requires.can }
 
 pub begin_heavy-requires-clause-fits : goal.begin_heavy-requires-clause-fits
 begin_heavy-requires-clause-fits c = opening_fits c.args.version c.args.depth (openings.Query c.args.query) c.requires.can

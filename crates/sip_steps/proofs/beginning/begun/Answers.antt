@@ -1,5 +1,5 @@
 -- A query, or a moment by the extension of its side.
-use Rattle.std.proofs.Common.{◌≡◌, [], refl, sym, subst}
+use Rattle.std.proofs.Common.{[], refl, sym, subst}
 use Rattle.std.specs.Prelude.{IfOk}
 use Rattle.sip_field.specs.Elements.{m61_number}
 use Rattle.sip_verifier.specs.declared.running.Running.{Running}

@@ -18,4 +18,3 @@ returns-clause-asked g c asked same stands =
       at = λ still_open. c.begin-turn.ensures.at;
       block_is = λ still_open. refl;
     }
-

@@ -1,5 +1,5 @@
 -- The other end closed, by the kind.
-use Rattle.std.proofs.Common.{◌≡◌, ◌++◌, List, sym, ap, subst}
+use Rattle.std.proofs.Common.{◌++◌, List, sym, ap, subst}
 use Rattle.sip_ports.specs.declared.port.TalkEvent.{TalkEvent}
 use Rattle.sip_field.specs.Moduli.{m61_modulus}
 use Rattle.sip_subvec.specs.Asking as subs
@@ -55,3 +55,9 @@ pub returns-in-Moment-clause-begun : goal.returns-in-Moment-clause-begun
 returns-in-Moment-clause-begun c =
     let b = c.requires.begun in
     (b.0, b.1 ++ end_heard (stage_at c.args.self.now), returns-in-Moment-clause-posed c b.0 b.1 b.2)
+
+pub close-requires-in-Moment : goal.close-requires-in-Moment
+close-requires-in-Moment c =
+    let b = c.requires.begun in
+    let own = subst (λ (p : Posing). IsPosed b.0 b.1 p) c.in-Moment.is b.2 in
+    record { begun = (moment_asked b.0.version m61_modulus own.0.degree own.1, message_of b.0.opening, b.0.block, b.1, own.2) }

@@ -1,5 +1,5 @@
 -- What is due goes out, by the kind.
-use Rattle.std.proofs.Common.{◌≡◌, ◌++◌, List, ℕ, sym, ap, subst, ◌∙◌}
+use Rattle.std.proofs.Common.{◌++◌, List, ℕ, sym, ap, subst, ◌∙◌}
 use Rattle.sip_ports.specs.Ports.{outs}
 use Rattle.sip_field.specs.Moduli.{m61_modulus}
 use Rattle.sip_subvec.specs.Asking as subs
@@ -72,3 +72,9 @@ returns-in-Moment-clause-begun g c =
     begun_after c.due-in-Moment.result b.0 b.1 (b.1 ++ outs (due_at c.args.self.now)) c.args.self.now (kinds.Moment c.due-in-Moment.new.self) b.2
     (returns-in-Moment-clause-posed g c b.0 b.1 b.2)
     (on_err c.due-in-Moment.result (λ same. ap kinds.Moment same ∙ sym c.in-Moment.is) c.due-in-Moment.ensures.same)
+
+pub due-requires-in-Moment : goal.due-requires-in-Moment
+due-requires-in-Moment g c =
+    let b = c.requires.begun in
+    let own = subst (λ (p : Posing). IsPosed b.0 b.1 p) c.in-Moment.is b.2 in
+    record { begun = (moment_asked b.0.version m61_modulus own.0.degree own.1, message_of b.0.opening, b.0.block, b.1, own.2) }

@@ -47,3 +47,9 @@ pub returns-in-Moment-clause-begun : goal.returns-in-Moment-clause-begun
 returns-in-Moment-clause-begun c =
     let b = c.requires.begun in
     (b.0, b.1 ++ ins (take c.feed-in-Moment.result c.args.bytes.now), returns-in-Moment-clause-posed c b.0 b.1 b.2)
+
+pub feed-requires-in-Moment : goal.feed-requires-in-Moment
+feed-requires-in-Moment c =
+    let b = c.requires.begun in
+    let own = subst (λ (p : Posing). IsPosed b.0 b.1 p) c.in-Moment.is b.2 in
+    record { begun = (moment_asked b.0.version m61_modulus own.0.degree own.1, message_of b.0.opening, b.0.block, b.1, own.2) }
