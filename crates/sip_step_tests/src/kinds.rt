@@ -114,7 +114,7 @@ pub(crate) struct Posed {
 }
 
 // Asks a question of an other end that says these pieces, and then closes or not.
-pub(crate) fn posed(
+pub(crate) fn came_of(
     alloc: Global,
     kind: Kind,
     pieces: &[&[u8]],

@@ -1,5 +1,5 @@
 // Queries and moments without a link, over talks that were worked out by hand.
-use crate::kinds::{Kind, posed};
+use crate::kinds::{Kind, came_of};
 use crate::pieces::{Row, cut_in_two, in_pieces};
 use sip_replies::{AskStop, Said};
 use sip_vector::Entry;
@@ -226,7 +226,7 @@ impl Row for KindRow {
     }
 
     fn is_so(&self, alloc: Global, pieces: &[&[u8]]) -> Result<bool, Fail> {
-        let Some(came) = posed(alloc, self.kind, pieces, self.closes)? else {
+        let Some(came) = came_of(alloc, self.kind, pieces, self.closes)? else {
             return Ok(false);
         };
         let sent = self.sent.concat(alloc)?;
