@@ -55,7 +55,7 @@ impl Lookup {
     }
 
     /// Whether a helper may find this place, or that there is none.
-    pub(crate) fn is_possible(self, depth: Depth, found: Option<u64>) -> bool
+    pub fn is_possible(self, depth: Depth, found: Option<u64>) -> bool
         ensures { result ≡ is_possible depth self found }
     {
         match (self, found) {
@@ -68,7 +68,7 @@ impl Lookup {
     }
 
     /// The ends, both included, of the interval whose entries prove that this was found.
-    pub(crate) fn interval(self, depth: Depth, found: Option<u64>) -> (u64, u64)
+    pub fn interval(self, depth: Depth, found: Option<u64>) -> (u64, u64)
         requires item { item_of self < 2 ^ depth }
         requires possible { IsTrue (is_possible depth self found) }
         ensures same { result ≡ range_of depth self found }
@@ -86,7 +86,7 @@ impl Lookup {
 
     /// Whether the entries of the interval are the one at the place that was found, alone, or none
     /// where none was. The value at an item needs no such test.
-    pub(crate) fn is_alone(self, found: Option<u64>, entries: &[Entry]) -> bool
+    pub fn is_alone(self, found: Option<u64>, entries: &[Entry]) -> bool
         ensures { result ≡ are_alone self found entries.now }
     {
         match (self, found, entries) {
@@ -98,7 +98,7 @@ impl Lookup {
     }
 
     /// The answer that the entries of the interval state.
-    pub(crate) fn answer(self, entries: &[Entry]) -> LookAnswer
+    pub fn answer(self, entries: &[Entry]) -> LookAnswer
         ensures { looked_of result ≡ stated_answer self entries.now }
     {
         match self {

@@ -1,11 +1,11 @@
-mod ByKind
-mod EnoughRoom
+pub mod ByKind
+pub mod EnoughRoom
 mod HelperKept
 mod NextAsked
 mod QuestionsLeft
 mod Refusals
 mod Refused
-mod PromisedRuns
+pub mod PromisedRuns
 mod SeatAsks
 mod StoreHeard
 mod StoreReading

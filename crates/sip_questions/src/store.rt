@@ -1,6 +1,6 @@
 //! The helper's end of a talk of questions, over a store of its own.
 
-ghost use Rattle.std.specs.Prelude.{◌≡◌, ◌⊎◌, ◌≤◌, [], Err, IfOk};
+ghost use Rattle.std.specs.Prelude.{◌≡◌, ◌⊎◌, ◌≤◌, [], Err, IfOk, IsSome};
 ghost use Rattle.sip_ports.specs.Ports.{HasCause, Lasts, Rose, SendsWhole, Writes};
 ghost use Rattle.sip_wire.specs.declared.message.Message.TheVariants as messages;
 ghost use Rattle.sip_wire.specs.Spelling.{spelling};
@@ -93,6 +93,7 @@ pub fn serve_store<A: Source, L: Link>(
 ) -> StoreStatus
     ensures serves { ServesStore form (A.left first.old) (A.left first.new) (L.talk link.old)
         (L.talk link.new) result }
+    ensures told { IsSome (A.left first.old) → IsSome (A.left first.new) }
     ensures cause { result ≡ StoreStatus.PeerFault
         → Rose (L.faults link.old) (L.faults link.new) }
     ensures read { result ≡ StoreStatus.ReadFault

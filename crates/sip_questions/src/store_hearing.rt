@@ -1,6 +1,6 @@
 //! The records of a store, heard by its helper.
 
-ghost use Rattle.std.specs.Prelude.{◌≡◌, ◌<◌, [], Bool, Err, List, false, length};
+ghost use Rattle.std.specs.Prelude.{◌≡◌, ◌<◌, [], Bool, Err, IsSome, List, false, length};
 ghost use Rattle.sip_ports.specs.Ports.{Lasts, Rose};
 ghost use Rattle.sip_stream.specs.Reading.{IsAfter};
 ghost use Rattle.sip_vector.specs.Tallies.{tally};
@@ -31,6 +31,7 @@ fn take_some<A: Source>(
     ensures takes { TakesSome reader.old reader.new (A.left first.old) (A.left first.new)
         block.new result }
     ensures len { length block.new ≡ length block.old }
+    ensures told { IsSome (A.left first.old) → IsSome (A.left first.new) }
     ensures cause { result ≡ Err StreamFault.ReadFault
         → Rose (A.faults first.old) (A.faults first.new) }
     ensures memory { result ≡ Err StreamFault.OutOfMemory
@@ -62,6 +63,7 @@ fn hear_some<A: Source>(
     ensures hears { HearsSome stream.old stream.new reader.old reader.new (A.left first.old)
         (A.left first.new) (length block.old) result }
     ensures len { length block.new ≡ length block.old }
+    ensures told { IsSome (A.left first.old) → IsSome (A.left first.new) }
     ensures cause { result ≡ Err StreamFault.ReadFault
         → Rose (A.faults first.old) (A.faults first.new) }
     ensures memory { result ≡ Err StreamFault.OutOfMemory
@@ -88,6 +90,7 @@ fn hear_front<A: Source>(
     requires behind { IsAfter reader.old [] }
     ensures hears { HearsFront stream.old stream.new reader.old reader.new (A.left first.old)
         (A.left first.new) count result }
+    ensures told { IsSome (A.left first.old) → IsSome (A.left first.new) }
     ensures cause { result ≡ Err StreamFault.ReadFault
         → Rose (A.faults first.old) (A.faults first.new) }
     ensures memory { result ≡ Err StreamFault.OutOfMemory
@@ -134,6 +137,7 @@ pub(crate) fn hear_store<A: Source>(
     ensures hears { (r : Recalls) (refused : Bool)
         → stream.old ≡ step fresh refused (messages.Open r.number r.depth) → count ≡ r.count
         → HearsStore r form (A.left first.old) (A.left first.new) stream.new result }
+    ensures told { IsSome (A.left first.old) → IsSome (A.left first.new) }
     ensures cause { result ≡ Err StoreStatus.ReadFault
         → Rose (A.faults first.old) (A.faults first.new) }
     ensures first { Lasts A.faults A.wants A.is_sure first.old first.new }

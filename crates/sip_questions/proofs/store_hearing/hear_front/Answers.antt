@@ -12,6 +12,7 @@ loop-left-init g c = record {
   heard = ([], omega arith, hears_none c.args.stream.now c.args.reader.now _ c.requires.far c.requires.behind.ready);
   unread = c.requires.behind;
   room = c.requires.room;
+  told = λ is. is;
   first = Lasts-refl g.A.Source.faults g.A.Source.wants g.A.Source.is_sure c.args.first.now;
 }
 
@@ -49,5 +50,6 @@ loop-left-preserved g c =
       heard = (us ++ vs, omega (arith, count, came, few, below, size, length-append us vs), hears_more _ _ _ _ _ _ _ _ _ us vs hears more);
       unread = c.loop-left.invariant.unread;
       room = omega (arith, len, c.min-most.ensures, c.loop-left-test.true, c.loop-left.invariant.room, length-append c.hear_some.new.block (drop c.min-most.result c.loop-left.block), length-drop c.min-most.result c.loop-left.block);
+      told = λ is. c.hear_some.ensures.told (c.loop-left.invariant.told is);
       first = Lasts-trans g.A.Source.faults g.A.Source.wants g.A.Source.is_sure c.args.first.now c.loop-left.first c.hear_some.new.first c.loop-left.invariant.first c.hear_some.ensures.first;
     }

@@ -1,5 +1,5 @@
 -- So many records were heard, and so many are left to be heard.
-use Rattle.std.proofs.Common.{◌≡◌, ◌+◌, ◌<◌, List, [], length}
+use Rattle.std.proofs.Common.{◌≡◌, ◌+◌, ◌<◌, IsSome, List, [], length}
 use Rattle.sip_ports.specs.Ports.{Lasts}
 use Rattle.sip_stream.specs.Reading.{IsAfter}
 use Rattle.sip_vector.specs.declared.update.Update.{Update}
@@ -11,6 +11,7 @@ invariant-loop-left g l = record {
   heard : (us : List Update) × (length us + l.left ≡ l.fn.count) × HearsOn l.fn.stream l.stream l.fn.reader l.reader (g.A.Source.left l.fn.first) (g.A.Source.left l.first) us;
   unread : IsAfter l.fn.reader [];
   room : 0 < length l.block;
+  told : IsSome (g.A.Source.left l.fn.first) → IsSome (g.A.Source.left l.first);
   first : Lasts g.A.Source.faults g.A.Source.wants g.A.Source.is_sure l.fn.first l.first;
 }
 
