@@ -4,6 +4,7 @@ import fcntl
 import os
 import select
 import signal
+import stat
 import time
 from typing import NamedTuple, Optional
 
@@ -129,11 +130,14 @@ class Program:
         return held
 
     def taken(self, case=None):
-        """The files that are there and their modes, which are taken away with all else."""
+        """The files that are there and their modes, which are taken away with all else but the two
+        FIFOs."""
         left, modes = {}, {}
         for name in os.listdir():
             if case and name in case.folders:
                 os.rmdir(name)
+                continue
+            if name in (FROM, TO) and stat.S_ISFIFO(os.stat(name).st_mode):
                 continue
             if name != GIVEN and os.path.isfile(name):
                 left[name], modes[name] = bytes_of(name), os.stat(name).st_mode & 0o777
@@ -173,17 +177,15 @@ class Program:
         report, said = self.written(self.out), self.written(self.err)
         return Ran(code, report, said, None, left=left, modes=modes, late=late)
 
-    def talk(self, words, files, data, turns, cuts):
+    def talk(self, case, turns, cuts):
         """Runs it over the two FIFOs, whose other end this is. In each turn so many bytes have
         come, and then the other end's bytes go out up to there. `cuts` says where they are cut.
         Nothing may come before a turn's last bytes went out."""
         os.chdir(self.fifos)
-        for name, bytes_ in files.items():
-            with open(name, "wb") as file:
-                file.write(bytes_)
+        held, data = self.put(case.files, case), case.data
         came, sent, early = b"", 0, False
         heard = os.open(TO, os.O_RDONLY | os.O_NONBLOCK)
-        child = self.start(words)
+        child = self.start(case.words)
         signal.setitimer(signal.ITIMER_REAL, LONGEST)
         code = None
         try:
@@ -207,10 +209,26 @@ class Program:
             os.waitpid(child, 0)
         finally:
             signal.setitimer(signal.ITIMER_REAL, 0)
-            os.close(heard)
-        for name in files:
-            os.unlink(name)
-        return Ran(code, self.written(self.out), self.written(self.err), came, early)
+            for descriptor in (heard, *held):
+                os.close(descriptor)
+        left, modes = self.taken(case)
+        report, said = self.written(self.out), self.written(self.err)
+        return Ran(code, report, said, came, early, left=left, modes=modes)
+
+    def both(self, case):
+        """Runs it and its helper over the two FIFOs. A helper that was asked nothing still waits
+        for the other end when that is done, and is ended."""
+        os.chdir(self.fifos)
+        self.put(case.files, case)
+        none = [(os.POSIX_SPAWN_OPEN, stream, os.devnull, os.O_RDWR, 0) for stream in (0, 1, 2)]
+        helper = os.posix_spawn(
+            self.path, [b"sip", *case.helper], {}, file_actions=none, setsigdef=[signal.SIGPIPE]
+        )
+        code = self.wait(self.start(case.words))
+        os.kill(helper, signal.SIGKILL)
+        os.waitpid(helper, 0)
+        left, modes = self.taken(case)
+        return Ran(code, self.written(self.out), self.written(self.err), None, left=left, modes=modes)
 
 
 def comes(name, wanted):

@@ -40,7 +40,7 @@ def case(chance):
     return beside(chance, make(chance, depth))
 
 
-def beside(chance, it):
+def beside(chance, it, pool=WORDS, verbs=tuple(SKETCHES)):
     """The same, at times with other words, a lock that is taken, or a name that no file can
     have."""
     name = it.words[1].decode()
@@ -56,7 +56,7 @@ def beside(chance, it):
     if chance.one_in(40) and not it.folders:
         it.files[name + ".new"] = b"left behind"
     if chance.one_in(8):
-        it = it._replace(words=words_changed(chance, it, WORDS))
+        it = it._replace(words=words_changed(chance, it, pool, verbs))
     return it
 
 

@@ -19,4 +19,6 @@ def tame(words, there):
     if "stored" in said and "to" in said:
         if said["to"] in (said["stored"].path, said["from"]) and said["to"] not in there:
             words[3] = "apart"
+    if "questions" in said and said["to"] == said["from"] and said["to"] not in there:
+        words[3] = "apart"
     return words

@@ -126,8 +126,11 @@ class Trial:
         self.program.makes_files(True)
         made = lambda name: made_beside(case.folders, name)  # noqa: E731
         outcome = self.group.run(case, files, made, self.verbs)
-        if over_fifos and outcome.to is not None and is_link(case):
-            return outcome, [*compared(outcome, self.over_fifos(chance, case, outcome))]
+        ran = self.with_link(chance, case, outcome, over_fifos)
+        if ran:
+            outcome = outcome._replace(left=but_link(outcome.left), to=ran.to if case.helper else outcome.to)
+            found = [*compared(outcome, ran), *left_otherwise(outcome.left, ran)]
+            return outcome, found + [*self.group.also(case, ran.report)]
         stream, sketch = said_names(case.words) if over_fifos and outcome.stored else (None, None)
         if stream in case.files and stream != sketch:
             # The last replacement comes only behind the end of the stream.
@@ -140,10 +143,18 @@ class Trial:
         found = [*compared(outcome, ran), *left_otherwise(outcome.left, ran)]
         return outcome, found + [*seen_by_others(case, files, outcome, ran)]
 
+    def with_link(self, chance, case, outcome, over_fifos):
+        """A run whose link is two FIFOs, if that is how it goes."""
+        if case.helper:
+            return self.program.both(case)
+        if over_fifos and outcome.to is not None and outcome.turns and is_link(case):
+            return self.over_fifos(chance, case, outcome)
+        return None
+
     def over_fifos(self, chance, case, outcome):
         size = len(case.data)
         cuts = sorted(chance.randint(0, size) for _ in range(chance.choice((0, 1, 3, 20))))
-        return self.program.talk(case.words, case.files, case.data, outcome.turns, cuts)
+        return self.program.talk(case, outcome.turns, cuts)
 
 
 def tried(groups, settings):
@@ -175,14 +186,21 @@ def made_beside(folders, name):
 def is_link(case):
     """Whether the two ends of the link are where a case has them, and nowhere else."""
     words, ends = case.words, [FROM.encode(), TO.encode()]
-    apart = not any(word.endswith(end) for word in words[:-2] for end in ends)
-    return case.data is not None and words[-2:] == ends and apart
+    at = 2 if words[:1] == [b"ask"] else len(words) - 2
+    apart = not any(word.endswith(end) for word in words[:at] + words[at + 2 :] for end in ends)
+    return case.data is not None and words[at : at + 2] == ends and apart
+
+
+def but_link(files):
+    return {name: data for name, data in files.items() if name not in (FROM, TO)}
 
 
 def said_names(words):
     """The stream and the sketch of a watch; twice nothing, of another command."""
+    if words[0] != b"watch":
+        return None, None
     _, said = read_words([word.decode() for word in words], SKETCHES)
-    return (said["stored"].path, said["sketch"]) if "stored" in said else (None, None)
+    return said["stored"].path, said["sketch"]
 
 
 def left_otherwise(wanted, ran):
