@@ -5,6 +5,7 @@ import os
 import select
 import signal
 import subprocess
+import time
 from typing import NamedTuple
 
 from oracle import asks, stores
@@ -157,7 +158,7 @@ class Talk:
                     raise SystemExit(f"an ask hangs that has sent {self.sent.hex()}")
                 if self.heard in ready and not self.hears(asker):
                     poll.unregister(self.heard)
-                if self.helper.stdout.fileno() in ready and not self.answers():
+                if self.helper.stdout.fileno() in ready and not self.answers(asker):
                     poll.unregister(self.helper.stdout.fileno())
                 if ended in ready:
                     while self.hears(asker):
@@ -176,7 +177,7 @@ class Talk:
             self.sent += data
             self.seen.append((len(self.sent), self.kept.used()))
             if self.gone_at == 0 and self.back is not None:
-                self.goes()
+                self.goes(asker)
             if self.kill_at is not None and len(self.sent) >= self.kill_at:
                 asker.send_signal(signal.SIGKILL)
             else:
@@ -189,18 +190,25 @@ class Talk:
         except BrokenPipeError:
             pass
 
-    def answers(self):
+    def answers(self, asker):
         data = os.read(self.helper.stdout.fileno(), 1 << 16)
         if data and self.back is not None:
             os.write(self.back, data if self.gone_at is None else data[: self.gone_at - self.said])
             self.said += len(data)
             if self.gone_at is not None and self.said >= self.gone_at:
-                self.goes()
+                self.goes(asker)
         return bool(data)
 
-    def goes(self):
+    def goes(self, asker):
+        """The link ends, but not before the asker has it."""
         os.close(self.back)
         self.back = None
+        while asker.poll() is None:
+            try:
+                os.close(os.open(self.kept.path(FROM), os.O_WRONLY | os.O_NONBLOCK))
+                return
+            except OSError:
+                time.sleep(0.001)
 
     def close(self):
         os.close(self.heard)
