@@ -104,7 +104,7 @@ class Kept:
             outcome = asks.run(words, {**files, FROM: replies})
             if outcome.to == heard:
                 states = [files[SKETCH], *(one.bytes() for one in outcome.stored)]
-                return Plan(outcome, replies, states, begins(outcome.to))
+                return Plan(outcome, replies, states, begins(outcome.to or b""))
             heard, served = outcome.to, f"serve {SERVED} heard said".encode().split()
             replies = stores.run(served, {STORE: store, "heard": heard}).to or b""
 
