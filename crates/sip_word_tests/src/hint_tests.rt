@@ -1,7 +1,7 @@
 // The line of advice behind the line of a status.
 
-use crate::noted_tests::NOTHING;
-use crate::page_tests::words_between;
+use crate::endings::NOTHING;
+use crate::words::words_between;
 use sip_advice::{finish, hint};
 use sip_command_tests::case::Case;
 use sip_ports::MemorySink;

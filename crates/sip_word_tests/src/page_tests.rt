@@ -1,5 +1,6 @@
 // The pages that one word asks for.
 
+use crate::words::words_between;
 use sip_advice::{HELP, VERSION, page_of, write_page};
 use sip_command_tests::case::Case;
 use sip_ports::MemorySink;
@@ -8,15 +9,6 @@ use sip_words::{Words, read_words};
 use std::alloc::Global;
 use std::process::Abort;
 use std::test::Fail;
-
-// The words of a text, with a mark between them.
-pub fn words_between(alloc: Global, text: &str, mark: char) -> Result<Words, Fail> {
-    let mut list = Vec::new(alloc);
-    for word in text.split(mark) {
-        list.push(String::from_str(alloc, word)?)?;
-    }
-    Ok(Words::of(list))
-}
 
 // Words with a bar between them, and the page that they ask for.
 type Asked<'a> = (&'a str, Option<&'a str>);

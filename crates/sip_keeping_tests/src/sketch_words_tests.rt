@@ -1,12 +1,12 @@
 // Words of the commands that keep a sketch: which they are, what they ask for, what they open, and
 // which word is refused.
 
-use crate::page_tests::words_between;
 use sip_command_tests::case::Case;
 use sip_keeping::{SketchCommand, file_opening, read_sketch_words, sketch_ports, sketch_verb};
 use sip_sketch::SeatKind;
 use sip_stream::Form;
 use sip_vector::Side;
+use sip_word_tests::words::words_between;
 use sip_words::{Opening, Usage, Words, read_words};
 use std::alloc::Global;
 use std::process::Abort;
