@@ -235,10 +235,10 @@ fn check_watched(rt: &impl Abort, alloc: Global, rows: &[Watched]) -> Result<(),
 fn each_word_of_a_sketch_is_refused_where_no_command_goes_on(rt: HostRuntime) -> Result<(), Fail> {
     let alloc = rt.alloc();
     check_refusals(&rt, alloc, REFUSALS)?;
-    check_many(&rt, alloc, 1)?;
-    check_many(&rt, alloc, 1024)?;
-    check_many(&rt, alloc, 1025)?;
-    check_many(&rt, alloc, 1026)
+    for parts in [1, 1024, 1025, 1026] {
+        check_many(&rt, alloc, parts)?;
+    }
+    Ok(())
 }
 
 #[test]
