@@ -3,7 +3,7 @@ use Rattle.std.proofs.Common.{◌≡◌, ◌≢◌, ℕ, zero, suc, ◌+◌, ◌
 use Rattle.std.specs.Prelude.{codes, Result, Ok, Err, IfErr, IfOk}
 use Rattle.std.proofs.Math.Seq.{take-append-add}
 use Rattle.std.proofs.lemmas.Bool.{cases_lt}
-use Rattle.std.proofs.lemmas.List.{append-nil, get_or-drop, length-append, length-drop, take_all, take_more, take-append-drop}
+use Rattle.std.proofs.lemmas.List.{append-nil, length-append, length-drop, take_all, take-append-drop}
 use Rattle.sip_vector.specs.declared.query.Query.TheVariants.{Inner}
 use Rattle.sip_wire.specs.Table.{most_queries}
 use Rattle.sip_words.specs.Words.{word}
@@ -13,6 +13,7 @@ use Rattle.sip_keeping.specs.AskWords.{AreQuestions, IsAskRefusedAt, IsQuestionW
 use Rattle.sip_keeping.specs.inside.AskSoFar.{AreQuestionsTo, StopsInQuestions}
 use Rattle.sip_keeping.specs.inside.SoFar.{AreNamesTo}
 use Rattle.sip_keeping.proofs.Refused.{refused}
+use Rattle.sip_keeping.proofs.SoFar.{taken}
 use Rattle.sip_keeping.proofs.Verbs.{front_1, front_2, front_3, front_4}
 
 -- what holds of an answer, where it follows from something else that does
@@ -45,14 +46,6 @@ as_many [] asked are = rw are refl
 as_many (w ∷ words) asked (q, more, first, order, behind) = let long = ap length order in let rest = as_many words more behind in omega arith
 
 -- ---- how far they were read
-
--- the words from `first` up to the one behind n
-taken : (words : List (List ℕ)) (first n : ℕ) → first ≤ n → n < length words → take (n + 1 - first) (drop first words) ≡ take (n - first) (drop first words) ++ word words n ∷ []
-taken words first n least more =
-    let rest = length-drop first words in
-    let count : n + 1 - first ≡ n - first + 1 = omega arith in
-    let place : first + (n - first) ≡ n = omega arith in
-    ap (λ k. take k (drop first words)) count ∙ (take_more (drop first words) (n - first) [] (omega arith) ∙ ap (λ w. take (n - first) (drop first words) ++ w ∷ []) (get_or-drop first words (n - first) [] ∙ ap (word words) place))
 
 pub questions_to_more : (words : List (List ℕ)) (first n : ℕ) (asked all : List Question) (question : Question) → AreQuestionsTo words first n asked → n < length words → IsQuestionWord question (word words n) → all ≡ asked ++ question ∷ [] → AreQuestionsTo words first (n + 1) all
 questions_to_more words first n asked all question are more is grown =

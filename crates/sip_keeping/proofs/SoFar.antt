@@ -9,7 +9,7 @@ use Rattle.sip_keeping.specs.inside.SoFar.{AreSeatsTo, StopsInSeats}
 use Rattle.sip_keeping.proofs.SeatWords.{seats_more}
 
 -- the words from `first` up to the one behind n
-taken : (words : List (List ℕ)) (first n : ℕ) → first ≤ n → n < length words → take (n + 1 - first) (drop first words) ≡ take (n - first) (drop first words) ++ word words n ∷ []
+pub taken : (words : List (List ℕ)) (first n : ℕ) → first ≤ n → n < length words → take (n + 1 - first) (drop first words) ≡ take (n - first) (drop first words) ++ word words n ∷ []
 taken words first n least more =
     let rest = length-drop first words in
     let count : n + 1 - first ≡ n - first + 1 = omega arith in

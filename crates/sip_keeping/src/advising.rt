@@ -184,28 +184,6 @@ pub fn advise_words<K: Sink>(
     say(ending, word_said(verb, usage.word), errors)
 }
 
-// Writes the line that a status has in other commands too.
-fn advise_shared<K: Sink>(
-    ending: Ending,
-    words: &Words,
-    noted: &Noted,
-    status: &SketchStatus,
-    errors: &mut K,
-) -> Ending
-    ensures same { result ≡ ending }
-    ensures silent { OnErr ending.line (errors.new ≡ errors.old) }
-    ensures nothing { shared status.now ≡ None → errors.new ≡ errors.old }
-    ensures written { OnOk ending.line (IfSome (shared status.now) (λ same.
-        (sent : Result Unit AnyStop)
-        × IsAdvised words.now noted.now same (K.talk errors.old) (K.talk errors.new) sent
-        × HasCause K.faults K.wants K.is_sure errors.old errors.new sent)) }
-{
-    match shared_status(status) {
-        Some(same) => ending.advise(words, noted, &same, errors),
-        None => ending,
-    }
-}
-
 /// Writes the line of advice behind that of the status, where that was written and there is one to
 /// give: one about sketches, or for a status that other commands have too the one that they give.
 /// Whatever becomes of it, the program ends as it did before.
@@ -229,9 +207,12 @@ pub fn advise_sketch<K: Sink>(
     ensures nothing { sketch_hint status.now ≡ None → shared status.now ≡ None
         → errors.new ≡ errors.old }
 {
-    match status_said(status) {
-        Some(line) => say(ending, line, errors),
-        None => advise_shared(ending, words, noted, status, errors),
+    if let Some(line) = status_said(status) {
+        return say(ending, line, errors);
+    }
+    match shared_status(status) {
+        Some(same) => ending.advise(words, noted, &same, errors),
+        None => ending,
     }
 }
 

@@ -73,28 +73,6 @@ fn status_said(status: &AskStatus) -> Option<&'static str>
     }
 }
 
-// Writes the line that a status has in other commands too.
-fn advise_run<K: Sink>(
-    ending: Ending,
-    words: &Words,
-    noted: &Noted,
-    status: &AskStatus,
-    errors: &mut K,
-) -> Ending
-    ensures same { result ≡ ending }
-    ensures silent { OnErr ending.line (errors.new ≡ errors.old) }
-    ensures nothing { as_run status.now ≡ None → errors.new ≡ errors.old }
-    ensures written { OnOk ending.line (IfSome (as_run status.now) (λ same.
-        (sent : Result Unit AnyStop)
-        × IsAdvised words.now noted.now same (K.talk errors.old) (K.talk errors.new) sent
-        × HasCause K.faults K.wants K.is_sure errors.old errors.new sent)) }
-{
-    match run_status(status) {
-        Some(same) => ending.advise(words, noted, &same, errors),
-        None => ending,
-    }
-}
-
 /// Writes the line of advice behind that of the status, where that was written and there is one to
 /// give: one about asking a sketch, or for a status that other commands have too the one that they
 /// give. Whatever becomes of it, the program ends as it did before.
@@ -118,9 +96,12 @@ pub fn advise_ask<K: Sink>(
     ensures nothing { ask_hint status.now ≡ None → as_run status.now ≡ None
         → errors.new ≡ errors.old }
 {
-    match status_said(status) {
-        Some(line) => say(ending, line, errors),
-        None => advise_run(ending, words, noted, status, errors),
+    if let Some(line) = status_said(status) {
+        return say(ending, line, errors);
+    }
+    match run_status(status) {
+        Some(same) => ending.advise(words, noted, &same, errors),
+        None => ending,
     }
 }
 

@@ -1,7 +1,7 @@
 // Sketches at depth 2 that begin at the challenges of 32 zero bytes, and grow by the three records
 // that add up to (3, 0, 5, 1): what their files have then.
 
-use crate::file_tests::WATCHED;
+use crate::worked::WATCHED;
 use sip_sketch::{SeatKind, Sketch};
 use sip_vector::{Depth, Side, Update};
 use std::process::Abort;

@@ -1,7 +1,7 @@
 //! What the file of a sketch is, byte by byte: what is read and written again, and the first fault
 //! of others; what a sketch has that began and grew, how it begins over a desk, and by which lines
-//! it is shown; and what the parts of a stream add up to.
-//! Nothing but tests stands here, so that this layer is proved once.
+//! it is shown; and what the parts of a stream add up to. Crates of tests of what stands on sketches
+//! take the worked file from here.
 #![tactic(auto)]
 
 #[cfg(test)]
@@ -18,3 +18,4 @@ mod merge_tests;
 mod showing_tests;
 #[cfg(test)]
 mod watch_tests;
+pub mod worked;

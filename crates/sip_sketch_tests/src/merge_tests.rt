@@ -6,8 +6,8 @@ use crate::absorbing_tests::{
     three_records,
 };
 use crate::begin_tests::{desk, keeps_only};
-use crate::file_tests::WATCHED;
 use crate::watch_tests::LOG;
+use crate::worked::WATCHED;
 use sip_ports::{MemoryDesk, MemorySource};
 use sip_sketch::{
     MOST_PARTS, MemoryFiles, SeatKind, SketchPort, SketchStatus, Unlike, merge, watch,

@@ -1,7 +1,7 @@
 // The lines by which sketches are shown, and what is no sketch. The lines were written by hand.
 
 use crate::absorbing_tests::{ALL_KINDS, USED_PART};
-use crate::file_tests::WATCHED;
+use crate::worked::WATCHED;
 use sip_ports::MemorySink;
 use sip_sketch::{MemoryFiles, SketchPort, SketchStatus, seats};
 use std::alloc::Global;

@@ -2,8 +2,8 @@
 // and one for sums of side 0 at the challenges of 32 zero bytes: the records of the stream that adds
 // up to (3, 0, 5, 1), as lines of text.
 
-use crate::file_tests::WATCHED;
 use crate::growing_tests::begun;
+use crate::worked::WATCHED;
 use sip_ports::{MemoryDesk, MemoryLink, MemorySource};
 use sip_sketch::{SketchPort, SketchStatus, watch};
 use sip_stream::{Form, Why};

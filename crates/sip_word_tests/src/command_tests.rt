@@ -1,6 +1,6 @@
 // Words that are commands: what they ask for, and what they open.
 
-use crate::page_tests::words_between;
+use crate::words::words_between;
 use sip_command_tests::case::Case;
 use sip_lookup::Lookup;
 use sip_moments::Moment;

@@ -1,8 +1,8 @@
 // The line and the exit code that each status has.
 
+use crate::endings::{expect_front, expect_whole, failing_sink, wide_sink};
 use sip_advice::finish;
 use sip_command_tests::case::Case;
-use sip_ports::{MemorySink, PortStop};
 use sip_stream::Why;
 use sip_vector::Side;
 use sip_verifier::{Port, Status};
@@ -130,34 +130,20 @@ const ENDINGS: &[Ending<'static>] = &[
 ];
 
 fn check_endings(rt: &impl Abort, alloc: Global, rows: &[Ending]) {
-    for (index, (status, code, line)) in rows.iter().enumerate() {
-        let mut sink = MemorySink::new(alloc, 4096, Vec::new(alloc));
+    for (index, (status, code, name)) in rows.iter().enumerate() {
+        let mut sink = wide_sink(alloc);
         let ending = finish(status, &mut sink);
-        let case = Case {
-            name: line,
-            number: index as u64,
-        };
-        case.holds(ending.code == *code && ending.line == Ok(()))
-            .expect(rt, "a case");
-        case.writes(sink.bytes(), line.as_bytes())
-            .expect(rt, "a case");
+        let number = index as u64;
+        expect_whole(rt, Case { name, number }, *code, ending, &sink);
     }
 }
 
-// A write that fails leaves a front of the line, and the code: one byte a call, and the sixth call
-// fails.
 #[test]
 fn each_status_has_its_line_and_code(rt: HostRuntime) -> Result<(), Fail> {
     let alloc = rt.alloc();
     check_endings(&rt, alloc, ENDINGS);
-    let mut sink = MemorySink::new(alloc, 1, vec![in alloc; 6]?);
+    let mut sink = failing_sink(alloc)?;
     let ending = finish(&Status::BadSeed, &mut sink);
-    let case = Case {
-        name: "the sixth write fails",
-        number: 6,
-    };
-    case.holds(ending.code == 3 && ending.line == Err(PortStop::Failed))
-        .expect(&rt, "a case");
-    case.writes(sink.bytes(), b"sip: ").expect(&rt, "a case");
+    expect_front(&rt, ending, &sink);
     Ok(())
 }

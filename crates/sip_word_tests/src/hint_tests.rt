@@ -1,7 +1,7 @@
 // The line of advice behind the line of a status.
 
-use crate::noted_tests::NOTHING;
-use crate::page_tests::words_between;
+use crate::endings::NOTHING;
+use crate::words::words_between;
 use sip_advice::{finish, hint};
 use sip_command_tests::case::Case;
 use sip_ports::MemorySink;
@@ -341,19 +341,36 @@ fn check_ended(rt: &impl Abort, alloc: Global, rows: &[Ended]) -> Result<(), Fai
     Ok(())
 }
 
-// Sixteen bytes a call, and the call of this number fails: what is said of words that are none, and
-// the code.
-fn check_failing(rt: &impl Abort, alloc: Global, number: u64, want: &str) -> Result<(), Fail> {
+// The call that fails, of sixteen bytes each, and what stands then of what is said of words that
+// are none.
+type Failing<'a> = (u64, &'a str);
+
+const FAILING: &[Failing<'static>] = &[
+    (1, ""),
+    (2, "sip: usage at wo"),
+    (3, "sip: usage at word 1\n"),
+    (4, "sip: usage at word 1\nsip: hint: \"07\" "),
+    (
+        100,
+        "sip: usage at word 1\n\
+        sip: hint: \"07\" cannot stand here: \
+        NUMBER is below 2^64, in digits without a leading zero\n",
+    ),
+];
+
+fn check_failing(rt: &impl Abort, alloc: Global, rows: &[Failing]) -> Result<(), Fail> {
     let words = words_between(alloc, "gen|07", '|')?;
     let status = Status::Usage { word: 1 };
-    let mut sink = MemorySink::new(alloc, 16, vec![in alloc; number]?);
-    let ending = finish(&status, &mut sink);
-    let advised = ending.advise(&words, &NOTHING, &status, &mut sink);
-    let case = Case { name: want, number };
-    case.holds(advised == ending && advised.code == 2)
-        .expect(rt, "a case");
-    case.writes(sink.bytes(), want.as_bytes())
-        .expect(rt, "a case");
+    for &(number, name) in rows {
+        let mut sink = MemorySink::new(alloc, 16, vec![in alloc; number]?);
+        let ending = finish(&status, &mut sink);
+        let advised = ending.advise(&words, &NOTHING, &status, &mut sink);
+        let case = Case { name, number };
+        case.holds(advised == ending && advised.code == 2)
+            .expect(rt, "a case");
+        case.writes(sink.bytes(), name.as_bytes())
+            .expect(rt, "a case");
+    }
     Ok(())
 }
 
@@ -406,16 +423,5 @@ fn advice_follows_from_the_words_and_the_status(rt: HostRuntime) -> Result<(), F
     check_illegal(&rt, alloc, ILLEGAL)?;
     check_not_wide(&rt, alloc, NOT_WIDE)?;
     check_ended(&rt, alloc, ENDED)?;
-    check_failing(&rt, alloc, 1, "")?;
-    check_failing(&rt, alloc, 2, "sip: usage at wo")?;
-    check_failing(&rt, alloc, 3, "sip: usage at word 1\n")?;
-    check_failing(&rt, alloc, 4, "sip: usage at word 1\nsip: hint: \"07\" ")?;
-    check_failing(
-        &rt,
-        alloc,
-        100,
-        "sip: usage at word 1\n\
-        sip: hint: \"07\" cannot stand here: \
-        NUMBER is below 2^64, in digits without a leading zero\n",
-    )
+    check_failing(&rt, alloc, FAILING)
 }

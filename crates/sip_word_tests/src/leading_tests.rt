@@ -1,6 +1,6 @@
 // The word in front of a command that asks for its progress.
 
-use crate::page_tests::words_between;
+use crate::words::words_between;
 use sip_command_tests::case::Case;
 use std::test::Fail;
 

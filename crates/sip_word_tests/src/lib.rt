@@ -1,15 +1,10 @@
 //! What words ask for, the pages and the advice about them, and how each status ends the program.
-//! Nothing but tests stands here.
+//! Crates of other tests of words take from here how words are made and how endings are looked at.
 #![tactic(auto)]
 
 #[cfg(test)]
-mod ask_ending_tests;
-#[cfg(test)]
-mod ask_run_tests;
-#[cfg(test)]
-mod ask_words_tests;
-#[cfg(test)]
 mod command_tests;
+pub mod endings;
 #[cfg(test)]
 mod exit_tests;
 #[cfg(test)]
@@ -29,10 +24,5 @@ mod refused_panel_tests;
 #[cfg(test)]
 mod refused_words_tests;
 #[cfg(test)]
-mod sketch_advice_tests;
-#[cfg(test)]
-mod sketch_ending_tests;
-#[cfg(test)]
-mod sketch_words_tests;
-#[cfg(test)]
 mod sparing_tests;
+pub mod words;

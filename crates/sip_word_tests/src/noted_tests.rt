@@ -1,38 +1,15 @@
 // What advice says of the files of a command.
 
-use crate::page_tests::words_between;
+use crate::endings::{NOTHING, SECRET};
+use crate::words::words_between;
 use sip_advice::{Noted, SeedLook, Trouble, Unopened, finish, hint};
 use sip_command_tests::case::Case;
 use sip_ports::MemorySink;
-use sip_vector::Negatives;
 use sip_verifier::{Port, Status};
 use std::alloc::Global;
 use std::process::Abort;
 use std::str::from_utf8;
 use std::test::Fail;
-
-// A seed of which there is nothing to say.
-const SECRET: SeedLook = SeedLook {
-    is_even: false,
-    is_shared: false,
-};
-
-// No number of the stream was below 0.
-const NONE: Negatives = Negatives {
-    first: false,
-    second: false,
-};
-
-// All files opened.
-pub const NOTHING: Noted = Noted {
-    first: None,
-    second: None,
-    from: None,
-    to: None,
-    keep: None,
-    seed: SECRET,
-    negatives: NONE,
-};
 
 // Words, what was noted of their files, a status, and what the advice names.
 type Lost<'a> = (&'a str, Noted, Status, &'a str);

@@ -1,5 +1,6 @@
 // The pages that one word asks for.
 
+use crate::words::words_between;
 use sip_advice::{HELP, VERSION, page_of, write_page};
 use sip_command_tests::case::Case;
 use sip_ports::MemorySink;
@@ -8,15 +9,6 @@ use sip_words::{Words, read_words};
 use std::alloc::Global;
 use std::process::Abort;
 use std::test::Fail;
-
-// The words of a text, with a mark between them.
-pub fn words_between(alloc: Global, text: &str, mark: char) -> Result<Words, Fail> {
-    let mut list = Vec::new(alloc);
-    for word in text.split(mark) {
-        list.push(String::from_str(alloc, word)?)?;
-    }
-    Ok(Words::of(list))
-}
 
 // Words with a bar between them, and the page that they ask for.
 type Asked<'a> = (&'a str, Option<&'a str>);
@@ -77,24 +69,27 @@ fn check_examples(rt: &impl Abort, alloc: Global, examples: &[&str]) -> Result<(
     Ok(())
 }
 
-// A page that is not written whole is a fault. One byte a call; with four bytes the calls are fewer
-// than five.
-fn check_failing(
-    rt: &impl Abort,
-    alloc: Global,
-    number: u64,
-    want: Status,
-    written: &str,
-) -> Result<(), Fail> {
-    let mut sink = MemorySink::new(alloc, 1, vec![in alloc; number]?);
-    let status = write_page("page", &mut sink);
-    let case = Case {
-        name: "a page that fails",
-        number,
-    };
-    case.ends(status, want).expect(rt, "a case");
-    case.writes(sink.bytes(), written.as_bytes())
-        .expect(rt, "a case");
+// The call that fails, of one byte each, how that ends and what was written of a page of four bytes:
+// one that is not written whole is a fault.
+type Failing<'a> = (u64, Status, &'a str);
+
+const FAULT: Status = Status::WriteFault { port: Port::Report };
+
+const FAILING: &[Failing<'static>] = &[
+    (5, Status::Accepted, "page"),
+    (4, FAULT, "pag"),
+    (1, FAULT, ""),
+];
+
+fn check_failing(rt: &impl Abort, alloc: Global, rows: &[Failing]) -> Result<(), Fail> {
+    for &(number, want, name) in rows {
+        let mut sink = MemorySink::new(alloc, 1, vec![in alloc; number]?);
+        let status = write_page("page", &mut sink);
+        let case = Case { name, number };
+        case.ends(status, want).expect(rt, "a case");
+        case.writes(sink.bytes(), name.as_bytes())
+            .expect(rt, "a case");
+    }
     Ok(())
 }
 
@@ -103,8 +98,5 @@ fn one_word_asks_for_a_page(rt: HostRuntime) -> Result<(), Fail> {
     let alloc = rt.alloc();
     check_asked(&rt, alloc, ASKED)?;
     check_examples(&rt, alloc, EXAMPLES)?;
-    let fault = Status::WriteFault { port: Port::Report };
-    check_failing(&rt, alloc, 5, Status::Accepted, "page")?;
-    check_failing(&rt, alloc, 4, fault, "pag")?;
-    check_failing(&rt, alloc, 1, fault, "")
+    check_failing(&rt, alloc, FAILING)
 }

@@ -1,6 +1,6 @@
 // The words that ask for a text, and what the page says.
 
-use crate::page_tests::words_between;
+use crate::words::words_between;
 use sip_advice::{
     ASK_PART, AUDIT_PART, BEGIN_PART, CONVERT_PART, GEN_PART, HELP, HELP_PART, HELPLOOK_PART,
     HELPMOM_PART, LINES_PART, LOOKUP_PART, MERGE_PART, MOMENTS_PART, PANEL_PART, PLAY_PART,

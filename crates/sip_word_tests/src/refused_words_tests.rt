@@ -1,6 +1,6 @@
 // Words that are no command, and which of them no command has behind those before.
 
-use crate::page_tests::words_between;
+use crate::words::words_between;
 use sip_command_tests::case::Case;
 use sip_words::{Usage, Words, read_words};
 use std::alloc::Global;

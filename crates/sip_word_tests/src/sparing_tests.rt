@@ -1,6 +1,6 @@
 // What is not opened, by the files that the openings are on.
 
-use crate::page_tests::words_between;
+use crate::words::words_between;
 use sip_command_tests::case::Case;
 use sip_words::{FileId, Opening, PlanFiles, PortPlan, ports, read_words};
 use std::process::Abort;

@@ -1,13 +1,13 @@
 // What is said behind the line of a status of the commands that keep a sketch.
 
-use crate::noted_tests::NOTHING;
-use crate::page_tests::words_between;
 use sip_advice::{Ending, Noted, Trouble, Unopened};
 use sip_command_tests::case::Case;
 use sip_keeping::{SketchLook, SketchVerb, advise_sketch, advise_words, caution_sketch};
 use sip_ports::{MemorySink, PortStop};
 use sip_sketch::{SketchPort, SketchStatus, Unlike};
 use sip_stream::Why;
+use sip_word_tests::endings::NOTHING;
+use sip_word_tests::words::words_between;
 use sip_words::{Usage, Words};
 use std::alloc::Global;
 use std::process::Abort;
@@ -15,7 +15,7 @@ use std::str::from_utf8;
 use std::test::Fail;
 
 // Where the line of the status was written.
-const WRITTEN: Ending = Ending {
+pub(crate) const WRITTEN: Ending = Ending {
     code: 3,
     line: Ok(()),
 };
@@ -88,7 +88,7 @@ const LOST: Noted = Noted {
 };
 
 // A line begins as each line of advice does, and has this in it; there is none where this is empty.
-pub fn is_line(bytes: &[u8], text: &str) -> bool {
+pub(crate) fn is_line(bytes: &[u8], text: &str) -> bool {
     if text.is_empty() {
         return bytes.is_empty();
     }

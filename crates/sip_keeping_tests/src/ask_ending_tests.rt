@@ -1,15 +1,15 @@
 // The line and the exit code of each status of the command that asks a sketch, and what is said
 // behind it.
 
-use crate::noted_tests::NOTHING;
-use crate::page_tests::words_between;
-use crate::sketch_advice_tests::is_line;
-use sip_advice::{Ending, Noted, Trouble, Unopened};
+use crate::sketch_advice_tests::{WRITTEN, is_line};
+use sip_advice::{Noted, Trouble, Unopened};
 use sip_ask::{AskPort, AskStatus};
 use sip_command_tests::case::Case;
 use sip_keeping::{SeatsLeft, advise_ask, advise_ask_words, finish_ask, tell_left};
-use sip_ports::{MemorySink, PortStop};
+use sip_ports::MemorySink;
 use sip_wire::{Held, Reason};
+use sip_word_tests::endings::{NOTHING, expect_front, expect_whole, failing_sink, wide_sink};
+use sip_word_tests::words::words_between;
 use sip_words::{Usage, Words};
 use std::alloc::Global;
 use std::process::Abort;
@@ -168,43 +168,23 @@ const ROWS: &[Row<'static>] = &[
 ];
 
 fn check_endings(rt: &impl Abort, alloc: Global, rows: &[Row]) {
-    for (index, (status, code, line, _)) in rows.iter().enumerate() {
-        let mut sink = MemorySink::new(alloc, 4096, Vec::new(alloc));
+    for (index, (status, code, name, _)) in rows.iter().enumerate() {
+        let mut sink = wide_sink(alloc);
         let ending = finish_ask(status, &mut sink);
-        let case = Case {
-            name: line,
-            number: index as u64,
-        };
-        case.holds(ending.code == *code && ending.line == Ok(()))
-            .expect(rt, "a case");
-        case.writes(sink.bytes(), line.as_bytes())
-            .expect(rt, "a case");
+        let number = index as u64;
+        expect_whole(rt, Case { name, number }, *code, ending, &sink);
     }
 }
 
-// A write that fails leaves a front of the line, and the code: one byte a call, and the sixth call
-// fails.
 #[test]
 fn each_status_of_an_ask_has_its_line_and_code(rt: HostRuntime) -> Result<(), Fail> {
     let alloc = rt.alloc();
     check_endings(&rt, alloc, ROWS);
-    let mut sink = MemorySink::new(alloc, 1, vec![in alloc; 6]?);
+    let mut sink = failing_sink(alloc)?;
     let ending = finish_ask(&AskStatus::NotWhole, &mut sink);
-    let case = Case {
-        name: "the sixth write fails",
-        number: 6,
-    };
-    case.holds(ending.code == 3 && ending.line == Err(PortStop::Failed))
-        .expect(&rt, "a case");
-    case.writes(sink.bytes(), b"sip: ").expect(&rt, "a case");
+    expect_front(&rt, ending, &sink);
     Ok(())
 }
-
-// Where the line of the status was written.
-const WRITTEN: Ending = Ending {
-    code: 3,
-    line: Ok(()),
-};
 
 // FROM is not there.
 const LOST: Noted = Noted {

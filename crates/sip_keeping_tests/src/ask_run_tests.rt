@@ -1,24 +1,14 @@
-// Words of an ask, done over a sketch in memory: how it ends, and what is reported.
+// Words of an ask, done over the worked sketch in memory: how it ends, and what is reported.
 
-use crate::page_tests::words_between;
 use sip_ask::AskStatus;
 use sip_command_tests::case::Case;
 use sip_keeping::{finish_ask, obey_ask, read_ask_words};
 use sip_ports::{MemoryDesk, MemoryLink, MemorySink};
+use sip_sketch_tests::worked::WATCHED;
+use sip_word_tests::words::words_between;
 use std::alloc::Global;
 use std::process::Abort;
 use std::test::Fail;
-
-// The sketch of three records that add up to (3, 0, 5, 1), at depth 2, with a seat for entries and
-// one for sums of side 0 at the challenges of 32 zero bytes.
-const SKETCH: &[u8; 152] = b"SIPK\x01\x02\0\0\0\x01\0\0\0\x01\0\0\0\x01\0\0\0\0\0\0\0\x09\
-\0\0\0\0\0\0\0\0\0\0\0\0\0\0\0\x03\0\xb8\x26\x1a\xe7\xdb\x4f\xab\0\x02\
-\x01\0\x12\x07\xbe\x34\x15\xbc\x17\x0e\x05\x17\xb0\xca\x7c\xad\x4b\xa8\
-\x08\x62\xb3\xb8\xb0\x1c\x7e\x21\0\0\0\0\0\0\0\0\
-\x02\0\x03\x5d\xb1\xb4\x17\x03\x3a\x57\x18\xe1\xae\xf1\x79\x9d\xe6\xd5\
-\x05\xf4\xed\x56\x53\x88\xba\x7b\0\0\0\0\0\0\0\0\
-\x53\xa7\xf3\x44\x91\x19\x8a\x39\x1b\x46\x47\x1c\x9e\x7f\xef\x22\
-\xdb\xf4\xb0\xc3\x14\xe9\xc2\x19\x6b\x72\x6f\xa1\x4c\x71\x5b\x1f";
 
 // What the helper holds, the honest replies to `sub:1:2`, and one record more than the sketch has.
 const HELD: &[u8] = b"\x26\0\x20\0\0\0\0\0\0\0\x03\0\0\0\0\0\0\0\x09\0\0\0\0\0\0\0\0\
@@ -169,7 +159,7 @@ fn check_rows(rt: &impl Abort, alloc: Global, file: &[u8], rows: &[Row]) -> Resu
 
 #[test]
 fn an_ask_ends_by_its_words_and_its_helper(rt: HostRuntime) -> Result<(), Fail> {
-    check_rows(&rt, rt.alloc(), SKETCH, ROWS)
+    check_rows(&rt, rt.alloc(), &WATCHED, ROWS)
 }
 
 // A sketch that is cut in its digest, and an empty file.
@@ -184,7 +174,7 @@ fn an_ask_of_a_bad_sketch_says_where(rt: HostRuntime) -> Result<(), Fail> {
         "sip: bad sketch at offset 120\n",
         "",
     );
-    check_rows(&rt, alloc, &SKETCH[..151], &[cut])?;
+    check_rows(&rt, alloc, &WATCHED[..151], &[cut])?;
     let none: Row = ("sub:1:2", &[], &[], 3, "sip: bad sketch at offset 0\n", "");
     check_rows(&rt, alloc, &[], &[none])
 }

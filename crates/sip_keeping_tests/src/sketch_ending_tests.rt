@@ -2,10 +2,10 @@
 
 use sip_command_tests::case::Case;
 use sip_keeping::finish_sketch;
-use sip_ports::{MemorySink, PortStop};
 use sip_sketch::{SketchPort, SketchStatus, Unlike};
 use sip_stream::Why;
 use sip_vector::Side;
+use sip_word_tests::endings::{expect_front, expect_whole, failing_sink, wide_sink};
 use std::alloc::Global;
 use std::process::Abort;
 use std::test::Fail;
@@ -187,34 +187,20 @@ const ENDINGS: &[Ending<'static>] = &[
 ];
 
 fn check_endings(rt: &impl Abort, alloc: Global, rows: &[Ending]) {
-    for (index, (status, code, line)) in rows.iter().enumerate() {
-        let mut sink = MemorySink::new(alloc, 4096, Vec::new(alloc));
+    for (index, (status, code, name)) in rows.iter().enumerate() {
+        let mut sink = wide_sink(alloc);
         let ending = finish_sketch(status, &mut sink);
-        let case = Case {
-            name: line,
-            number: index as u64,
-        };
-        case.holds(ending.code == *code && ending.line == Ok(()))
-            .expect(rt, "a case");
-        case.writes(sink.bytes(), line.as_bytes())
-            .expect(rt, "a case");
+        let number = index as u64;
+        expect_whole(rt, Case { name, number }, *code, ending, &sink);
     }
 }
 
-// A write that fails leaves a front of the line, and the code: one byte a call, and the sixth call
-// fails.
 #[test]
 fn each_status_of_a_sketch_has_its_line_and_code(rt: HostRuntime) -> Result<(), Fail> {
     let alloc = rt.alloc();
     check_endings(&rt, alloc, ENDINGS);
-    let mut sink = MemorySink::new(alloc, 1, vec![in alloc; 6]?);
+    let mut sink = failing_sink(alloc)?;
     let ending = finish_sketch(&SketchStatus::Busy, &mut sink);
-    let case = Case {
-        name: "the sixth write fails",
-        number: 6,
-    };
-    case.holds(ending.code == 3 && ending.line == Err(PortStop::Failed))
-        .expect(&rt, "a case");
-    case.writes(sink.bytes(), b"sip: ").expect(&rt, "a case");
+    expect_front(&rt, ending, &sink);
     Ok(())
 }

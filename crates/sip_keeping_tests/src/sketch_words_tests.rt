@@ -1,12 +1,12 @@
 // Words of the commands that keep a sketch: which they are, what they ask for, what they open, and
 // which word is refused.
 
-use crate::page_tests::words_between;
 use sip_command_tests::case::Case;
 use sip_keeping::{SketchCommand, file_opening, read_sketch_words, sketch_ports, sketch_verb};
 use sip_sketch::SeatKind;
 use sip_stream::Form;
 use sip_vector::Side;
+use sip_word_tests::words::words_between;
 use sip_words::{Opening, Usage, Words, read_words};
 use std::alloc::Global;
 use std::process::Abort;
@@ -235,10 +235,10 @@ fn check_watched(rt: &impl Abort, alloc: Global, rows: &[Watched]) -> Result<(),
 fn each_word_of_a_sketch_is_refused_where_no_command_goes_on(rt: HostRuntime) -> Result<(), Fail> {
     let alloc = rt.alloc();
     check_refusals(&rt, alloc, REFUSALS)?;
-    check_many(&rt, alloc, 1)?;
-    check_many(&rt, alloc, 1024)?;
-    check_many(&rt, alloc, 1025)?;
-    check_many(&rt, alloc, 1026)
+    for parts in [1, 1024, 1025, 1026] {
+        check_many(&rt, alloc, parts)?;
+    }
+    Ok(())
 }
 
 #[test]

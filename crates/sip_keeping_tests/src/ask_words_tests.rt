@@ -1,12 +1,12 @@
 // Words of the command that asks a sketch: what they ask, what they open, and which word is refused.
 
-use crate::page_tests::words_between;
 use sip_command_tests::case::Case;
 use sip_keeping::{ask_ports, asks_sketch, file_opening, read_ask_words, sketch_verb};
 use sip_lookup::Lookup;
 use sip_moments::Moment;
 use sip_questions::Question;
 use sip_vector::{Query, Side};
+use sip_word_tests::words::words_between;
 use sip_words::{Opening, Usage, Words, read_words};
 use std::alloc::Global;
 use std::process::Abort;

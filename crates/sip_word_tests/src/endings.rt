@@ -1,0 +1,62 @@
+//! How a status ends the program: its code, its line, and what is noted for the advice behind it.
+
+use sip_advice::{Ending, Noted, SeedLook};
+use sip_command_tests::case::Case;
+use sip_ports::{MemorySink, PortStop};
+use sip_vector::Negatives;
+use std::alloc::Global;
+use std::process::Abort;
+use std::test::Fail;
+
+/// A seed of which there is nothing to say.
+pub const SECRET: SeedLook = SeedLook {
+    is_even: false,
+    is_shared: false,
+};
+
+// No number of the stream was below 0.
+const NONE: Negatives = Negatives {
+    first: false,
+    second: false,
+};
+
+/// All files opened.
+pub const NOTHING: Noted = Noted {
+    first: None,
+    second: None,
+    from: None,
+    to: None,
+    keep: None,
+    seed: SECRET,
+    negatives: NONE,
+};
+
+/// A sink that takes lines whole.
+pub fn wide_sink(alloc: Global) -> MemorySink {
+    MemorySink::new(alloc, 4096, Vec::new(alloc))
+}
+
+/// A sink that takes one byte a call, and of which the sixth call fails.
+pub fn failing_sink(alloc: Global) -> Result<MemorySink, Fail> {
+    Ok(MemorySink::new(alloc, 1, vec![in alloc; 6]?))
+}
+
+/// A status ended with this code, and the line that the case is named by was written whole.
+pub fn expect_whole(rt: &impl Abort, case: Case<'_>, code: u8, ending: Ending, sink: &MemorySink) {
+    case.holds(ending.code == code && ending.line == Ok(()))
+        .expect(rt, "a code");
+    case.writes(sink.bytes(), case.name.as_bytes())
+        .expect(rt, "a line");
+}
+
+/// A refusal whose line could not be written behind its fifth byte: a front of it stands there, and
+/// the code is its own.
+pub fn expect_front(rt: &impl Abort, ending: Ending, sink: &MemorySink) {
+    let case = Case {
+        name: "the sixth write fails",
+        number: 6,
+    };
+    case.holds(ending.code == 3 && ending.line == Err(PortStop::Failed))
+        .expect(rt, "a code");
+    case.writes(sink.bytes(), b"sip: ").expect(rt, "a front");
+}
