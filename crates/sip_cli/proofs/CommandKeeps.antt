@@ -1,6 +1,6 @@
 -- What each command keeps, and that the command keeps no more: the one call that does it carries
 -- the clause of the command.
-use Rattle.std.proofs.Common.{◌≡◌, ℕ, List, [], Option, Some, IsSome, refl, sym, subst}
+use Rattle.std.proofs.Common.{◌≡◌, ℕ, List, [], Option, Some, refl, sym, subst}
 use Rattle.arrayvec.specs.ArrayVec.{ArrayVec}
 use Rattle.sip_ports.specs.declared.port.TalkEvent.{TalkEvent}
 use Rattle.sip_ports.specs.Ports.{GoesOn, outs}
@@ -83,8 +83,7 @@ module _ (before now : Snapshot) (status : Status) where
 
   -- there is an exchange that the ports tell
   abbrev pub Moves : Command → Type 0
-  Moves d = IsTold before → ((form : Form) → d ≡ Serve form → IsSome now.first)
-      → (x : Exchange) × Tells before now x
+  Moves d = IsTold before → (x : Exchange) × Tells before now x
 
 module _ {before now : Snapshot} {status : Status} where
   -- where the command is known, what it keeps is all that is to be kept
@@ -121,21 +120,21 @@ module _ {before now : Snapshot} {status : Status} where
 
   pub verify_keeps : {c : Command} (task : Task) → c ≡ Verify task
       → RunClause task before now status → CommandClause (λ is. c ≡ is) before now status
-  verify_keeps task e k = obeys (Verify task) e k.promises (λ is still. k.moves is) k.fault k.listed
+  verify_keeps task e k = obeys (Verify task) e k.promises k.moves k.fault k.listed
 
   pub play_keeps : {c : Command} (task : Task) (name : HelperName) → c ≡ Play task name
       → RunClause task before now status → CommandClause (λ is. c ≡ is) before now status
-  play_keeps task name e k = obeys (Play task name) e k.promises (λ is still. k.moves is) k.fault k.listed
+  play_keeps task name e k = obeys (Play task name) e k.promises k.moves k.fault k.listed
 
   pub panel_keeps : {c : Command} (task : Task) (names : ArrayVec HelperName) → c ≡ Panel task names
       → RunClause task before now status → CommandClause (λ is. c ≡ is) before now status
-  panel_keeps task names e k = obeys (Panel task names) e k.promises (λ is still. k.moves is) k.fault k.listed
+  panel_keeps task names e k = obeys (Panel task names) e k.promises k.moves k.fault k.listed
 
   pub audit_keeps : {c : Command} (form : Form) → c ≡ Audit form
       → AuditClause form before now status
       → (IsTold before → (x : Exchange) × Tells before now x)
       → CommandClause (λ is. c ≡ is) before now status
-  audit_keeps form e k moves = obeys (Audit form) e k (λ is still. moves is) k.fault k.listed
+  audit_keeps form e k moves = obeys (Audit form) e k moves k.fault k.listed
 
   -- the record is not kept
   look_promised : (task : LookTask) → LookClause task (untold before) (untold now) status
@@ -172,23 +171,22 @@ module _ {before now : Snapshot} {status : Status} where
       → LookClause task (untold before) (untold now) status → now.keep ≡ before.keep
       → CommandClause (λ is. c ≡ is) before now status
   look_keeps task e k same =
-      obeys (Lookup task) e (look_promised task k) (λ is still. moves_all same k.moves is)
+      obeys (Lookup task) e (look_promised task k) (moves_all same k.moves)
       (faulted before.faults now.faults status k.fault) k.listed
 
   pub moments_keeps : {c : Command} (task : MomentTask) → c ≡ Moments task
       → MomentClause task (untold before) (untold now) status → now.keep ≡ before.keep
       → CommandClause (λ is. c ≡ is) before now status
   moments_keeps task e k same =
-      obeys (Moments task) e (moment_promised task k) (λ is still. moves_all same k.moves is)
+      obeys (Moments task) e (moment_promised task k) (moves_all same k.moves)
       (faulted before.faults now.faults status k.fault) k.listed
 
   -- ---- by another sign
 
   -- what a command keeps, it keeps for all who know it by another sign
   pub known_by : {Is Other : Command → Type 0} → ((command : Command) → Other command → Is command)
-      → ((command : Command) → Is command → Other command)
       → CommandClause Is before now status → CommandClause Other before now status
-  known_by tells knows k = record {
+  known_by tells k = record {
     verify = λ task is. k.verify task (tells (Verify task) is);
     play = λ task name is. k.play task name (tells (Play task name) is);
     panel = λ task names is. k.panel task names (tells (Panel task names) is);
@@ -205,7 +203,7 @@ module _ {before now : Snapshot} {status : Status} where
     moments = λ task is. k.moments task (tells (Moments task) is);
     help_moments = λ is. k.help_moments (tells HelpMoments is);
     serve = λ form is. k.serve form (tells (Serve form) is);
-    moves = λ told still. k.moves told (λ form is. still form (knows (Serve form) is));
+    moves = k.moves;
     fault = k.fault;
     listed = λ command is. k.listed command (tells command is);
   }
@@ -230,7 +228,7 @@ none_keeps {m = m} word none = record {
   moments = λ task is. absurd (none (Moments task) is);
   help_moments = λ is. absurd (none HelpMoments is);
   serve = λ form is. absurd (none (Serve form) is);
-  moves = λ is still. tells m m is (λ some. some) [] (GoesOn-refl _) [] (GoesOn-refl _) []
+  moves = λ is. tells m m is (λ some. some) [] (GoesOn-refl _) [] (GoesOn-refl _) []
       (GoesOn-refl _);
   fault = tt;
   listed = λ command is. absurd (none command is);

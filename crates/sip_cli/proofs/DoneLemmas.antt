@@ -151,7 +151,7 @@ module _ {A B L K C : Type 0} {first : Used A ℕ} {second : Used B ℕ} {peer :
       → DoneClause Is first second peer report keep status
       → DoneClause Other first second peer report keep status
   done_by is_so so_is k = record {
-    keeps = known_by is_so so_is k.keeps;
+    keeps = known_by is_so k.keeps;
     copies_apart = λ command so. k.copies_apart command (is_so command so);
     copies_want = λ command so. k.copies_want command (is_so command so);
     helps_apart = λ command so. k.helps_apart command (is_so command so);

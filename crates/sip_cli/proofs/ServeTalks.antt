@@ -1,5 +1,5 @@
 -- What was said in a talk over a store is what is new on its link.
-use Rattle.std.proofs.Common.{◌⊎◌, ℕ, List, Option, inl, inr}
+use Rattle.std.proofs.Common.{ℕ, List, Option, inl, inr}
 use Rattle.sip_ports.specs.declared.port.TalkEvent.{TalkEvent}
 use Rattle.sip_ports.specs.Ports.{GoesOn}
 use Rattle.sip_ports.proofs.TalkLemmas.{GoesOn-trans}

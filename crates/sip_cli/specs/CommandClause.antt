@@ -97,10 +97,8 @@ pub record CommandClause (Is : Command → Type 0) (before now : Snapshot) (stat
   -- `serve`: a talk of questions is served over the stream
   pub serve : (form : Form) → Is (Serve form)
       → ServeClause form before.first now.first before.talk now.talk status
-  -- ports that tell go on telling, so there is an exchange that they tell; where the stream of
-  -- `serve` could not be heard to where it was to be, it is not said that it does
-  pub moves : IsTold before → ((form : Form) → Is (Serve form) → IsSome now.first)
-      → (x : Exchange) × Tells before now x
+  -- ports that tell go on telling, so there is an exchange that they tell
+  pub moves : IsTold before → (x : Exchange) × Tells before now x
   -- whatever the ports tell, a fault of a port comes only where its own count rose
   pub fault : FaultClause before.faults now.faults status
   -- no status comes but those of the command

@@ -1,6 +1,6 @@
 //! The command of the other side that has the stream in a file.
 
-ghost use Rattle.std.specs.Prelude.{◌≡◌, ℕ, List};
+ghost use Rattle.std.specs.Prelude.{◌≡◌, ℕ, IsSome, List};
 ghost use Rattle.sip_ports.specs.declared.port.TalkEvent.{TalkEvent as AnyTalkEvent};
 ghost use Rattle.sip_ports.specs.Ports.{GoesOn, Lasts, Rose};
 ghost use Rattle.sip_verifier.specs.Snapshots.{Counts, counts};
@@ -45,6 +45,7 @@ pub(crate) fn serve<A: Source, L: Link>(
 ) -> Status
     ensures serves { ServeClause form (A.left first.old) (A.left first.new)
         (L.talk peer.old) (L.talk peer.new) result }
+    ensures told { IsSome (A.left first.old) → IsSome (A.left first.new) }
     ensures said { (said : List AnyTalkEvent) × GoesOn (L.talk peer.old) (L.talk peer.new) said }
     ensures fault { (second seconds report reports keep keeps : ℕ)
         → FaultClause (counts (A.faults first.old) second (L.faults peer.old) report keep)

@@ -29,7 +29,7 @@ pub returns-in-Help-clause-done : goal.returns-in-Help-clause-done
 returns-in-Help-clause-done g c =
     does _ c.in-Help.is
     (obeys _ c.in-Help.is c.help.ensures.help
-    (λ is still. let said = c.help.ensures.said in
+    (λ is. let said = c.help.ensures.said in
     tells _ _ is (λ some. some) said.0 said.1 [] (GoesOn-refl _) [] (GoesOn-refl _))
     (c.help.ensures.fault _ _ _ _ _ _ _ _) c.help.ensures.listed)
     (refl, refl, refl, refl)
@@ -38,8 +38,8 @@ pub returns-in-Serve-clause-done : goal.returns-in-Serve-clause-done
 returns-in-Serve-clause-done g c =
     does _ c.in-Serve.is
     (obeys _ c.in-Serve.is c.serve.ensures.serves
-    (λ is still. let said = c.serve.ensures.said in
-    tells _ _ is (λ some. still _ refl) said.0 said.1 [] (GoesOn-refl _) [] (GoesOn-refl _))
+    (λ is. let said = c.serve.ensures.said in
+    tells _ _ is c.serve.ensures.told said.0 said.1 [] (GoesOn-refl _) [] (GoesOn-refl _))
     (c.serve.ensures.fault _ _ _ _ _ _) c.serve.ensures.listed)
     (refl, refl, refl)
 
@@ -54,7 +54,7 @@ pub returns-in-Show-clause-done : goal.returns-in-Show-clause-done
 returns-in-Show-clause-done g c =
     does _ c.in-Show.is
     (obeys _ c.in-Show.is c.show.ensures.writes
-    (λ is still. let wrote = c.show.ensures.wrote is.second in
+    (λ is. let wrote = c.show.ensures.wrote is.second in
     tells _ _ is (λ some. some) [] (GoesOn-refl _) wrote.0 wrote.1 [] (GoesOn-refl _))
     (c.show.ensures.fault _ _ _ _ _ _) c.show.ensures.listed)
     (refl, refl, refl)
@@ -63,7 +63,7 @@ pub returns-in-Convert-clause-done : goal.returns-in-Convert-clause-done
 returns-in-Convert-clause-done g c =
     does _ c.in-Convert.is
     (obeys _ c.in-Convert.is c.convert.ensures.writes
-    (λ is still. let wrote = c.convert.ensures.wrote is.second in
+    (λ is. let wrote = c.convert.ensures.wrote is.second in
     tells _ _ is (λ some. some) [] (GoesOn-refl _) wrote.0 wrote.1 [] (GoesOn-refl _))
     (c.convert.ensures.fault _ _ _ _ _ _) c.convert.ensures.listed)
     (refl, refl, refl)
@@ -72,7 +72,7 @@ pub returns-in-Gen-clause-done : goal.returns-in-Gen-clause-done
 returns-in-Gen-clause-done g c =
     does _ c.in-Gen.is
     (obeys _ c.in-Gen.is (rw c.made-form.ensures.form at c.copy_stream.ensures.copied)
-    (λ is still. let wrote = c.copy_stream.ensures.wrote is.first in
+    (λ is. let wrote = c.copy_stream.ensures.wrote is.first in
     tells _ _ is c.copy_stream.ensures.told [] (GoesOn-refl _) wrote.0 wrote.1 [] (GoesOn-refl _))
     (c.copy_stream.ensures.fault _ _ _ _ _ _) c.copy_stream.ensures.listed)
     ((refl, refl, refl), c.copy_stream.ensures.memory)
@@ -81,7 +81,7 @@ pub returns-in-Lines-clause-done : goal.returns-in-Lines-clause-done
 returns-in-Lines-clause-done g c =
     does _ c.in-Lines.is
     (obeys _ c.in-Lines.is c.copy_stream-in-Lines.ensures.copied
-    (λ is still. let wrote = c.copy_stream-in-Lines.ensures.wrote is.first in
+    (λ is. let wrote = c.copy_stream-in-Lines.ensures.wrote is.first in
     tells _ _ is c.copy_stream-in-Lines.ensures.told [] (GoesOn-refl _) wrote.0 wrote.1 [] (GoesOn-refl _))
     (c.copy_stream-in-Lines.ensures.fault _ _ _ _ _ _) c.copy_stream-in-Lines.ensures.listed)
     ((refl, refl, refl), c.copy_stream-in-Lines.ensures.memory)
@@ -90,7 +90,7 @@ pub returns-in-Widen-clause-done : goal.returns-in-Widen-clause-done
 returns-in-Widen-clause-done g c =
     does _ c.in-Widen.is
     (obeys _ c.in-Widen.is c.copy_stream-in-Widen.ensures.copied
-    (λ is still. let wrote = c.copy_stream-in-Widen.ensures.wrote is.first in
+    (λ is. let wrote = c.copy_stream-in-Widen.ensures.wrote is.first in
     tells _ _ is c.copy_stream-in-Widen.ensures.told [] (GoesOn-refl _) wrote.0 wrote.1 [] (GoesOn-refl _))
     (c.copy_stream-in-Widen.ensures.fault _ _ _ _ _ _) c.copy_stream-in-Widen.ensures.listed)
     ((refl, refl, refl), c.copy_stream-in-Widen.ensures.memory)
@@ -105,7 +105,7 @@ pub returns-in-HelpLook-clause-done : goal.returns-in-HelpLook-clause-done
 returns-in-HelpLook-clause-done g c =
     does _ c.in-HelpLook.is
     (obeys _ c.in-HelpLook.is c.help_look.ensures.help
-    (λ is still. let said = c.help_look.ensures.said in
+    (λ is. let said = c.help_look.ensures.said in
     tells _ _ is (λ some. some) said.0 said.1 [] (GoesOn-refl _) [] (GoesOn-refl _))
     (c.help_look.ensures.fault _ _ _ _ _ _ _ _) c.help_look.ensures.listed)
     (refl, refl, refl, refl)
@@ -120,7 +120,7 @@ pub returns-in-HelpMoments-clause-done : goal.returns-in-HelpMoments-clause-done
 returns-in-HelpMoments-clause-done g c =
     does _ c.in-HelpMoments.is
     (obeys _ c.in-HelpMoments.is c.help_moments.ensures.help
-    (λ is still. let said = c.help_moments.ensures.said in
+    (λ is. let said = c.help_moments.ensures.said in
     tells _ _ is (λ some. some) said.0 said.1 [] (GoesOn-refl _) [] (GoesOn-refl _))
     (c.help_moments.ensures.fault _ _ _ _ _ _ _ _) c.help_moments.ensures.listed)
     (refl, refl, refl, refl)

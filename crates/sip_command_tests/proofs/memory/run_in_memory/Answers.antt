@@ -8,35 +8,35 @@ pub returns-clause-promises : goal.returns-clause-promises
 returns-clause-promises c = λ task spells.
     let old = held_by c.args.first.now c.args.second.now c.args.peer.now c.args.report.now c.args.keep.now in
     let new = held_by c.run.new.first c.run.new.second c.run.new.peer c.run.new.report c.run.new.keep in
-    let told = c.run.ensures.done.keeps.moves (all_told old _) (λ form is. refl) in
+    let told = c.run.ensures.done.keeps.moves (all_told old _) in
     let x = told.0 in (x, Moves-told old new _ _ x told.1, c.run.ensures.done.keeps.verify task spells x told.1)
 
 pub returns-clause-played : goal.returns-clause-played
 returns-clause-played c = λ task name spells.
     let old = held_by c.args.first.now c.args.second.now c.args.peer.now c.args.report.now c.args.keep.now in
     let new = held_by c.run.new.first c.run.new.second c.run.new.peer c.run.new.report c.run.new.keep in
-    let told = c.run.ensures.done.keeps.moves (all_told old _) (λ form is. refl) in
+    let told = c.run.ensures.done.keeps.moves (all_told old _) in
     let x = told.0 in (x, Moves-told old new _ _ x told.1, c.run.ensures.done.keeps.play task name spells x told.1)
 
 pub returns-clause-seated : goal.returns-clause-seated
 returns-clause-seated c = λ task names spells.
     let old = held_by c.args.first.now c.args.second.now c.args.peer.now c.args.report.now c.args.keep.now in
     let new = held_by c.run.new.first c.run.new.second c.run.new.peer c.run.new.report c.run.new.keep in
-    let told = c.run.ensures.done.keeps.moves (all_told old _) (λ form is. refl) in
+    let told = c.run.ensures.done.keeps.moves (all_told old _) in
     let x = told.0 in (x, Moves-told old new _ _ x told.1, c.run.ensures.done.keeps.panel task names spells x told.1)
 
 pub returns-clause-looked : goal.returns-clause-looked
 returns-clause-looked c = λ task spells.
     let old = held_by c.args.first.now c.args.second.now c.args.peer.now c.args.report.now c.args.keep.now in
     let new = held_by c.run.new.first c.run.new.second c.run.new.peer c.run.new.report c.run.new.keep in
-    let told = c.run.ensures.done.keeps.moves (all_told old _) (λ form is. refl) in
+    let told = c.run.ensures.done.keeps.moves (all_told old _) in
     let x = told.0 in (x, Moves-told old new _ _ x told.1, c.run.ensures.done.keeps.look task spells x told.1)
 
 pub returns-clause-summed : goal.returns-clause-summed
 returns-clause-summed c = λ task spells.
     let old = held_by c.args.first.now c.args.second.now c.args.peer.now c.args.report.now c.args.keep.now in
     let new = held_by c.run.new.first c.run.new.second c.run.new.peer c.run.new.report c.run.new.keep in
-    let told = c.run.ensures.done.keeps.moves (all_told old _) (λ form is. refl) in
+    let told = c.run.ensures.done.keeps.moves (all_told old _) in
     let x = told.0 in (x, Moves-told old new _ _ x told.1, c.run.ensures.done.keeps.moments task spells x told.1)
 
 pub returns-clause-made : goal.returns-clause-made
@@ -58,7 +58,7 @@ pub returns-clause-audited : goal.returns-clause-audited
 returns-clause-audited c = λ form spells.
     let old = held_by c.args.first.now c.args.second.now c.args.peer.now c.args.report.now c.args.keep.now in
     let new = held_by c.run.new.first c.run.new.second c.run.new.peer c.run.new.report c.run.new.keep in
-    let told = c.run.ensures.done.keeps.moves (all_told old _) (λ form is. refl) in
+    let told = c.run.ensures.done.keeps.moves (all_told old _) in
     let lines = told.0.report in (
       lines,
       (Moves-told old new _ _ told.0 told.1).report,
