@@ -54,12 +54,12 @@ pub(crate) const NINE: [u8; 27] = [
 // The entries of at least 4: the leaves 2 and 3, and then the node of items 0 and 1.
 pub(crate) const HEAVY_4: [u8; 13] = [4, 0, 10, 5, 0, 0, 0, 0, 0, 0, 0, 0, 4];
 
-const LEAVES: [u8; 32] = [
+pub(crate) const LEAVES: [u8; 32] = [
     0x15, 0, 0x1a, 0, 2, 0, 0, 0, 2, 0, 0, 0, 0, 0, 0, 0, 5, 0, 0, 0, 3, 0, 0, 0, 0, 0, 0, 0, 1,
     0x17, 0, 0,
 ];
 
-const NODES: [u8; 28] = [
+pub(crate) const NODES: [u8; 28] = [
     0x16, 0, 0x16, 0, 1, 0, 0, 0, 0, 0, 0, 0, 0, 0, 0, 0, 9, 0, 0, 0, 0, 0, 0, 0, 3, 0x17, 0, 0,
 ];
 

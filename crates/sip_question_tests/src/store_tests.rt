@@ -16,25 +16,20 @@ use std::alloc::Global;
 use std::process::Abort;
 
 // The records (0, 0, 3), (0, 2, 5), (0, 3, 1), and a fourth, (0, 1, 2).
-const RECORDS: [u8; 52] = [
+pub(crate) const RECORDS: [u8; 52] = [
     0, 0, 0, 0, 0, 0, 0, 0, 0, 0, 0, 0, 3, 0, 0, 0, 0, 2, 0, 0, 0, 0, 0, 0, 0, 5, 0, 0, 0, 0, 3, 0,
     0, 0, 0, 0, 0, 0, 1, 0, 0, 0, 0, 1, 0, 0, 0, 0, 0, 0, 0, 2,
 ];
 
-// How many bytes the first two and the first three have.
-const TWO: usize = 26;
-
-const THREE: usize = 39;
-
 const LINES: &[u8] = b"0 0 3\n0 2 5\n0 3 1\n0 1 2\n";
 
-const OPEN: [u8; 5] = [1, 0, 2, 1, 2];
+pub(crate) const OPEN: [u8; 5] = [1, 0, 2, 1, 2];
 
 const RECALL_0: [u8; 11] = [0x27, 0, 8, 0, 0, 0, 0, 0, 0, 0, 0];
 
 const RECALL_2: [u8; 11] = [0x27, 0, 8, 0, 0, 0, 0, 0, 0, 0, 2];
 
-const RECALL_3: [u8; 11] = [0x27, 0, 8, 0, 0, 0, 0, 0, 0, 0, 3];
+pub(crate) const RECALL_3: [u8; 11] = [0x27, 0, 8, 0, 0, 0, 0, 0, 0, 0, 3];
 
 const RECALL_ALL: [u8; 11] = [0x27, 0, 8, 255, 255, 255, 255, 255, 255, 255, 255];
 
@@ -50,12 +45,12 @@ const HELD_2: [u8; 35] = [
     0x1b, 0x06, 0x03, 0x00, 0x4e, 0x1b, 0x13,
 ];
 
-const HELD_3: [u8; 35] = [
+pub(crate) const HELD_3: [u8; 35] = [
     0x26, 0, 0x20, 0, 0, 0, 0, 0, 0, 0, 3, 0, 0, 0, 0, 0, 0, 0, 9, 0, 0, 0, 0, 0, 0, 0, 0, 0xb8,
     0x26, 0x1a, 0xe7, 0xdb, 0x4f, 0xab, 0x00,
 ];
 
-const HELD_4: [u8; 35] = [
+pub(crate) const HELD_4: [u8; 35] = [
     0x26, 0, 0x20, 0, 0, 0, 0, 0, 0, 0, 4, 0, 0, 0, 0, 0, 0, 0, 11, 0, 0, 0, 0, 0, 0, 0, 0, 0xda,
     0x3a, 0x76, 0xc0, 0xed, 0x54, 0x64, 0x82,
 ];
@@ -163,7 +158,7 @@ const SERVED: [Row; 9] = [
 ];
 
 // Stores with a record that is not legal among those that are asked for.
-const BAD: [Row; 4] = [
+const BAD: [Row; 6] = [
     (
         Form::Text,
         b"0 0 3\n0 2 5\n0 4 1\n",
@@ -181,6 +176,26 @@ const BAD: [Row; 4] = [
         StoreStatus::BadStream {
             at: 2,
             why: Why::BadItem,
+        },
+        &[],
+    ),
+    (
+        Form::Text,
+        b"0 0 3\n0 2 5\n0 3 0\n",
+        &[&OPEN, &RECALL_3, &SUB_1_2],
+        StoreStatus::BadStream {
+            at: 2,
+            why: Why::ZeroDelta,
+        },
+        &[],
+    ),
+    (
+        Form::Text,
+        b"0 0 3\n0 2 1073741821\n",
+        &[&OPEN, &RECALL_3, &SUB_1_2],
+        StoreStatus::BadStream {
+            at: 1,
+            why: Why::TooHeavy(Side::First),
         },
         &[],
     ),
@@ -207,7 +222,7 @@ const BAD: [Row; 4] = [
 ];
 
 // Talks with a message that may not come, with bytes that are none, or without an end.
-const STOPPED: [Row; 12] = [
+const STOPPED: [Row; 13] = [
     (
         Form::Text,
         LINES,
@@ -271,6 +286,13 @@ const STOPPED: [Row; 12] = [
         StoreStatus::BadFrame { offset: 28 },
         &[&HELD_3, &ENTRY, &OUT_OF_TURN],
     ),
+    (
+        Form::Text,
+        LINES,
+        &[&OPEN, &RECALL_3, &CUBES, &SUB_1_2],
+        StoreStatus::BadFrame { offset: 21 },
+        &[&HELD_3, &SUM, &OUT_OF_TURN],
+    ),
     (Form::Text, LINES, &[], StoreStatus::PeerClosed, &[]),
     (
         Form::Text,
@@ -290,7 +312,7 @@ const STOPPED: [Row; 12] = [
 
 // Serves a talk over a store, both in pieces of this size: how it ends, and what is sent. The calls
 // of the store and of the link with these numbers fail.
-fn served(
+pub(crate) fn served(
     alloc: Global,
     talk: (Form, &[u8], &[u8]),
     chunk: usize,
