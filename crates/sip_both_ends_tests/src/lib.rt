@@ -1,6 +1,6 @@
 //! What both ends of a run come to: `verify`, `lookup` and `moments` against the helpers of the
-//! program, runs of `play` and of `panel`, what is kept of a run, and what it says on the way, over
-//! ports in memory. Nothing but tests stands here.
+//! program, questions of every kind against `serve`, runs of `play` and of `panel`, what is kept of
+//! a run, and what it says on the way, over ports in memory. Nothing but tests stands here.
 #![tactic(auto)]
 
 #[cfg(test)]
@@ -23,6 +23,8 @@ mod play_tests;
 mod progress_tests;
 #[cfg(test)]
 mod record_tests;
+#[cfg(test)]
+mod serve_ends_tests;
 #[cfg(test)]
 mod sum_duel_tests;
 #[cfg(test)]
