@@ -1,2 +1,4 @@
 pub mod Asked
+pub mod Openings
+pub mod Posed
 pub mod Served

@@ -2,14 +2,18 @@
 //! pieces, bytes that are due are taken, and no call waits.
 //!
 //! [`Asking`] asks one question: what is due goes out by [`due`](Asking::due), what comes goes in
-//! by [`feed`](Asking::feed), and [`verdict`](Asking::verdict) says what came of it. [`Serving`]
-//! is the helper's end of a talk.
+//! by [`feed`](Asking::feed), and [`verdict`](Asking::verdict) says what came of it. [`Posing`] is
+//! the same as one type for every query and every moment, by the running numbers of a stream: so
+//! questions of several kinds can be asked one after another in one talk. [`Serving`] is the
+//! helper's end of a talk, of whatever helper.
 //!
 //! # What is proved
 //!
 //! - Whatever the pieces, the bytes that `Asking` gave out and took, in their order, are a talk as
 //!   whoever asks over a link has it, and the verdict is the answer of that talk. While it waits no
 //!   answer is possible by the bytes so far, and it owes no byte ([`laws`]).
+//! - The same of `Posing`, said of each stream whose numbers the question is judged by, and in the
+//!   words in which a verifier promises it over a link.
 //! - The bytes that `Serving` took and sent are turns of its helper's rules, and its status says
 //!   how the talk ended, as of a talk on a link.
 //! - Of bytes behind the end of a question or of a talk none is taken.
@@ -19,12 +23,19 @@
 //! | file of `specs/` | what it defines |
 //! |---|---|
 //! | `Asked` | what the bytes of a question so far are a talk of |
+//! | `Openings` | what is asked by one message, and by which numbers of a stream |
+//! | `Posed` | what the bytes of a question of any kind are a talk of, and what came of it |
 //! | `Served` | what the bytes of a helper's talk so far are |
 #![tactic(auto)]
 
 mod asking;
+mod beginning;
 pub mod laws;
+mod opening;
+mod posing;
 mod serving;
 
 pub use asking::Asking;
+pub use opening::Opening;
+pub use posing::Posing;
 pub use serving::Serving;
