@@ -106,7 +106,7 @@ fn pass(posing: &mut Posing, bytes: &[u8], link: &mut MemoryLink) -> Result<usiz
 
 // What came of a question: the verdict, the pairs, how many bytes were taken, and what was sent.
 #[derive(Drop)]
-pub(crate) struct Posed {
+pub(crate) struct Outcome {
     pub(crate) verdict: Option<Result<Said, AskStop>>,
     pub(crate) pairs: Vec<Entry>,
     pub(crate) taken: usize,
@@ -119,7 +119,7 @@ pub(crate) fn posed(
     kind: Kind,
     pieces: &[&[u8]],
     closes: bool,
-) -> Result<Option<Posed>, Fail> {
+) -> Result<Option<Outcome>, Fail> {
     let Some(mut posing) = begun(alloc, kind)? else {
         return Ok(None);
     };
@@ -131,7 +131,7 @@ pub(crate) fn posed(
     if closes {
         posing.close();
     }
-    Ok(Some(Posed {
+    Ok(Some(Outcome {
         verdict: posing.verdict(),
         pairs: posing.pairs().to_vec(alloc)?,
         taken,
