@@ -57,10 +57,10 @@ module _ {S : Type 0} (P : Protocol S) (request : Message) (block : List ℕ) (e
   answers (stages.Rejected round reason) m = m
 
   -- the replies of a talk that waits, the last one of which is a part
-  abbrev so_far : IsWaiting P request block events → List (List ℕ)
+  abbrev pub so_far : IsWaiting P request block events → List (List ℕ)
   so_far w = w.replies ++ w.part ∷ []
 
-  is_due : (w : IsWaiting P request block events) → IsDue P block (so_far w)
+  pub is_due : (w : IsWaiting P request block events) → IsDue P block (so_far w)
   is_due w =
       let count : length (so_far w) ≡ suc (length w.replies) = omega (arith, length-append w.replies (w.part ∷ [])) in
       let fault : Fault = record { round = length w.replies; reason = reasons.Closed } in
@@ -73,7 +73,7 @@ module _ {S : Type 0} (P : Protocol S) (request : Message) (block : List ℕ) (e
       (w.cut.due, unfinished, inr (fault, w.closed))
 
 -- a stage that hears
-hears_at : {S : Type 0} (P : Protocol S) (request : Message) (block : List ℕ) (events : List TalkEvent) (places : List Entry) (stage : Stage) → is_hearing stage ≡ true → Means P request block events places stage → IsWaiting P request block events
+pub hears_at : {S : Type 0} (P : Protocol S) (request : Message) (block : List ℕ) (events : List TalkEvent) (places : List Entry) (stage : Stage) → is_hearing stage ≡ true → Means P request block events places stage → IsWaiting P request block events
 hears_at P request block events places stages.Hears hears m = m
 hears_at P request block events places _ hears m = absurd cc
 

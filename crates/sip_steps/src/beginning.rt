@@ -31,7 +31,7 @@ use sip_wire::Version;
 use std::alloc::Global;
 
 // So many places to which no pair was written.
-fn places_for(alloc: Global, count: usize) -> Result<Vec<Entry>, OutOfMemory>
+pub(crate) fn places_for(alloc: Global, count: usize) -> Result<Vec<Entry>, OutOfMemory>
     ensures { IfOk result (λ places. length places.items ≡ count) }
 {
     let Ok(places) = vec![in alloc; Entry { index: 0, value: 0 }; count] else {
@@ -41,7 +41,7 @@ fn places_for(alloc: Global, count: usize) -> Result<Vec<Entry>, OutOfMemory>
 }
 
 // How many pairs the answer for an interval may have.
-fn most_pairs(lo: u64, hi: u64) -> usize
+pub(crate) fn most_pairs(lo: u64, hi: u64) -> usize
     requires { lo ≤ hi }
     ensures { result ≡ most_answer lo hi }
 {

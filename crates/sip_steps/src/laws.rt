@@ -10,7 +10,12 @@ ghost use Rattle.sip_steps.specs.declared.asking.Asking.{Asking as AnyAsking};
 ghost use Rattle.sip_steps.specs.Asked.{IsAsked};
 ghost use Rattle.sip_steps.specs.declared.posing.Posing.{Posing as AnyPosing};
 ghost use Rattle.sip_steps.specs.Openings.{IsOf, Subject};
-ghost use Rattle.sip_steps.specs.Posed.{ComesOf, IsPosed, WaitsFor, asked_at, pairs_at, stage_at};
+ghost use Rattle.sip_steps.specs.Posed.{ComesOf, IsPosed, Waits, WaitsFor, asked_at, pairs_at};
+ghost use Rattle.sip_steps.specs.Posed.{stage_at};
+ghost use Rattle.sip_questions.specs.Questions.{asking};
+ghost use Rattle.sip_steps.specs.declared.question.QuestionAsking.{QuestionAsking as AnyQuestion};
+ghost use Rattle.sip_steps.specs.Questioned as questioned;
+ghost use Rattle.sip_steps.specs.Questioned.{About, IsAskedOf, is_hearing_at};
 
 use sip_replies::{Check, Request};
 
@@ -33,4 +38,13 @@ pub fn posings_are_asked()
     ensures waits { (s : Subject) (stream : List AnyUpdate) (events : List AnyEvent)
         (p : AnyPosing) → IsOf s stream → IsPosed s events p → is_hearing (stage_at p) ≡ true
         → WaitsFor s stream events s.opening }
+{}
+
+/// While bytes of a question of any kind are to come, all that was due was said, and no answer is
+/// possible by it, about each stream whose numbers it is judged by. What is said of it once there
+/// is a verdict is a clause of [`verdict`](crate::QuestionAsking::verdict).
+pub fn questions_wait()
+    ensures { (q : About) (stream : List AnyUpdate) (events : List AnyEvent) (a : AnyQuestion)
+        → questioned.IsOf q stream → IsAskedOf q events a → is_hearing_at a ≡ true
+        → Waits (asking q.version q.depth stream) q.question q.block events }
 {}

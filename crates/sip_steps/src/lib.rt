@@ -30,12 +30,18 @@
 
 mod asking;
 mod beginning;
+mod found;
 pub mod laws;
+mod looking;
 mod opening;
 mod posing;
+mod question;
+mod seeking;
 mod serving;
 
 pub use asking::Asking;
+pub use looking::Looking;
 pub use opening::Opening;
 pub use posing::Posing;
+pub use question::QuestionAsking;
 pub use serving::Serving;

@@ -1,11 +1,11 @@
 -- Each turn takes a byte at least.
 use Rattle.std.proofs.Common.{◌-◌, ◌≤◌, length}
-use Rattle.sip_steps.specs.Posed.{HasBegun}
+use Rattle.sip_steps.specs.Questioned.{HasBegun}
 use Rattle.sip_step_tests.proofs.kinds.pass.Given as goal
 
 abbrev pub invariant-loop-taken : goal.invariant-loop-taken
 invariant-loop-taken l = record {
-  begun : HasBegun l.posing;
+  begun : HasBegun l.asking;
   most : l.taken ≤ length l.bytes;
 }
 

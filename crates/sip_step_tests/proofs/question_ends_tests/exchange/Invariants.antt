@@ -2,12 +2,12 @@
 use Rattle.std.proofs.Common.{not}
 use Rattle.sip_questions.specs.Serving.{question_rules}
 use Rattle.sip_questions.specs.inside.Keeping.{questions_left}
-use Rattle.sip_steps.specs.Posed.{HasBegun as HasBegunPosing}
+use Rattle.sip_steps.specs.Questioned.{HasBegun as HasBegunQuestion}
 use Rattle.sip_steps.specs.Served.{HasBegun}
-use Rattle.sip_step_tests.proofs.question_talks_tests.exchange.Given as goal
+use Rattle.sip_step_tests.proofs.question_ends_tests.exchange.Given as goal
 
-abbrev pub invariant-loop-turn : goal.invariant-loop-_turn
+abbrev pub invariant-loop-turn : goal.invariant-loop-turn
 invariant-loop-turn l = record {
-  posing : HasBegunPosing l.posing;
+  asking : HasBegunQuestion l.asking;
   serving : HasBegun question_rules questions_left (λ s. not s.helper.spent) l.serving;
 }

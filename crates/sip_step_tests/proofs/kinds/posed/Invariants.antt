@@ -1,6 +1,0 @@
--- The question is under way.
-use Rattle.sip_steps.specs.Posed.{HasBegun}
-use Rattle.sip_step_tests.proofs.kinds.posed.Given as goal
-
-abbrev pub invariant-loop-piece : goal.invariant-loop-piece
-invariant-loop-piece l = HasBegun l.posing
