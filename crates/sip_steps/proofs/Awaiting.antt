@@ -1,5 +1,5 @@
 -- While bytes are to come of a question, all that was due was said, and no answer is possible by it.
-use Rattle.std.proofs.Common.{◌≡◌, ℕ, ◌++◌, Bool, true, false, if◌then◌else◌, Some, Option, Result, Ok, Err, List, [], ◌∷◌, length, inl, inr, refl, sym, ap, subst, ◌∙◌, append-nil, append_assoc}
+use Rattle.std.proofs.Common.{◌≡◌, ℕ, ◌++◌, Bool, true, false, if◌then◌else◌, Option, Result, Ok, Err, List, [], ◌∷◌, inl, inr, refl, sym, ap, ◌∙◌, append-nil, append_assoc}
 use Rattle.sip_field.specs.Moduli.{m61_modulus}
 use Rattle.sip_ports.specs.declared.port.TalkEvent.{TalkEvent}
 use Rattle.sip_ports.specs.Ports.{ins, outs}
@@ -34,7 +34,7 @@ use Rattle.sip_verifier.proofs.SeatAsked.{sub_protocol_is}
 use Rattle.sip_lookup.specs.declared.lookup.Lookup.{Lookup}
 use Rattle.sip_lookup.specs.AcceptsLook.{parts}
 use Rattle.sip_lookup.specs.Frames.{ask_message, found_message, read_found}
-use Rattle.sip_lookup.specs.Lookups.{is_possible, range_of}
+use Rattle.sip_lookup.specs.Lookups.{range_of}
 use Rattle.sip_lookup.specs.Questions.{Question, looking, said_behind, said_for}
 use Rattle.sip_lookup.proofs.FoundFrames.{found_more}
 use Rattle.sip_lookup.proofs.FoundHeard.{fault_says}

@@ -1,9 +1,9 @@
 -- What bytes say where a Found is awaited.
-use Rattle.std.proofs.Common.{◌≡◌, ◌≢◌, ℕ, ◌+◌, ◌-◌, ◌≤◌, ◌<◌, ◌++◌, Option, None, Some, Result, Ok, Err, List, [], ◌∷◌, length, take, drop, refl, sym, ap, subst, ◌∙◌, arith, append-nil, append_assoc, length-drop, take_all}
+use Rattle.std.proofs.Common.{◌≡◌, ◌≢◌, ℕ, ◌+◌, ◌-◌, ◌≤◌, ◌++◌, Option, None, Some, Result, Ok, Err, List, [], ◌∷◌, length, take, drop, refl, sym, ap, subst, ◌∙◌, arith, append-nil, append_assoc, length-drop, take_all}
 use lib.Seq.{take-add}
 use Rattle.std.specs.Prelude.{IsTrue}
 use Rattle.sip_ports.specs.declared.port.TalkEvent.{TalkEvent}
-use Rattle.sip_ports.specs.Ports.{ins, outs}
+use Rattle.sip_ports.specs.Ports.{ins}
 use Rattle.sip_vector.specs.Steps.{◌>>=◌}
 use Rattle.sip_wire.specs.declared.kind.Place.TheVariants as places
 use Rattle.sip_wire.specs.declared.message.Message.{Message}
@@ -19,9 +19,8 @@ use Rattle.sip_wire.specs.Reading.{read_frame}
 use Rattle.sip_wire.specs.Spelling.{asked, fits, spelling}
 use Rattle.sip_wire.specs.Taking.{ShowsFault}
 use Rattle.sip_wire.proofs.ReadingLaws.{read_frame-short}
-use Rattle.sip_replies.specs.Asking.{Came, HasFault}
+use Rattle.sip_replies.specs.Asking.{HasFault}
 use Rattle.sip_replies.specs.Replies.{reason_of, reasoned}
-use Rattle.sip_replies.specs.Talks.{ending}
 use Rattle.sip_replies.proofs.Entering.{ending_none}
 use Rattle.sip_replies.proofs.Framed.{AreFrames-one}
 use Rattle.sip_lookup.specs.Frames.{found_in, found_message, read_found}

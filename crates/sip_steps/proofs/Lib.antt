@@ -1,5 +1,6 @@
 pub mod Awaiting
 pub mod Beginnings
+pub mod Calls
 pub mod Cases
 pub mod Founds
 pub mod LookSteps

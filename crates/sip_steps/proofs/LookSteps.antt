@@ -1,22 +1,19 @@
 -- A lookup without a link, step by step.
-use Rattle.std.proofs.Common.{◌≡◌, ◌≢◌, ℕ, ◌≤◌, ◌<◌, ◌^◌, ◌++◌, nat_lt, Bool, true, false, not, if◌then◌else◌, None, Some, Option, Result, Ok, Err, List, [], ◌∷◌, length, take, inl, inr, refl, sym, ap, subst, ◌∙◌, arith, append-nil, append_assoc}
-use Rattle.std.specs.Prelude.{IsTrue, OnErr, OnOk, nat_le}
-use Rattle.std.proofs.lemmas.Bool.{and_parts, leb-true, ltb-true}
-use Rattle.sip_field.specs.Moduli.{m61_modulus}
+use Rattle.std.proofs.Common.{◌≡◌, ℕ, ◌≤◌, ◌<◌, ◌^◌, ◌++◌, nat_lt, Bool, true, false, None, Some, Option, Result, Ok, Err, List, [], ◌∷◌, inl, inr, refl, sym, ap, subst, ◌∙◌, arith, append-nil, append_assoc}
+use Rattle.std.specs.Prelude.{OnErr, OnOk, nat_le}
+use Rattle.std.proofs.lemmas.Bool.{and_parts, ltb-true}
 use Rattle.sip_ports.specs.declared.port.TalkEvent.{TalkEvent}
 use Rattle.sip_ports.specs.declared.port.TalkEvent.TheVariants.{Ended}
 use Rattle.sip_ports.specs.Ports.{ins, outs}
 use Rattle.sip_vector.specs.declared.query.Query.TheVariants.{Sub}
-use Rattle.sip_vector.specs.declared.update.Entry.{Entry}
 use Rattle.sip_wire.specs.declared.kind.Place.TheVariants as places
 use Rattle.sip_wire.specs.declared.message.Message.TheVariants as messages
 use Rattle.sip_wire.specs.declared.message.Reason.{Reason}
 use Rattle.sip_wire.specs.declared.message.Reason.TheVariants as reasons
 use Rattle.sip_wire.specs.declared.version.Version.{Version}
 use Rattle.sip_wire.specs.Frames.{frame_bytes}
-use Rattle.sip_wire.specs.Spelling.{asked, spelling}
+use Rattle.sip_wire.specs.Spelling.{spelling}
 use Rattle.sip_wire.proofs.ReadingLaws.{read_frame-closed}
-use Rattle.sip_replies.specs.Asking.{HasFault}
 use Rattle.sip_replies.specs.Replies.{reasoned}
 use Rattle.sip_replies.proofs.Fed.{events_more, short_empty}
 use Rattle.sip_subvec.specs.Asking as subs
@@ -24,8 +21,8 @@ use Rattle.sip_subvec.specs.Asking.{SubStands, most_answer, phase_of}
 use Rattle.sip_subvec.specs.Protocol.{sub_protocol}
 use Rattle.sip_lookup.specs.declared.lookup.Lookup.{Lookup}
 use Rattle.sip_lookup.specs.declared.lookup.Lookup.TheVariants.{Index, Pred, Succ}
-use Rattle.sip_lookup.specs.Frames.{ask_message, read_found}
-use Rattle.sip_lookup.specs.Lookups.{is_possible, item_of, range_of}
+use Rattle.sip_lookup.specs.Frames.{ask_message}
+use Rattle.sip_lookup.specs.Lookups.{is_possible, range_of}
 use Rattle.sip_lookup.proofs.FoundHeard.{fault_says}
 use Rattle.sip_steps.specs.declared.asking.Asking.{Asking}
 use Rattle.sip_steps.specs.declared.looking.LookStep.{LookStep}

@@ -1,10 +1,7 @@
 -- What a lookup that is asked without a link comes to is what one over a link comes to.
-use Rattle.std.proofs.Common.{◌≡◌, ◌≢◌, ◌⊎◌, ℕ, ◌≤◌, ◌<◌, ◌++◌, Bool, true, false, not, if◌then◌else◌, None, Some, Option, Result, Ok, Err, List, [], ◌∷◌, length, take, inl, inr, refl, sym, ap, subst, ◌∙◌, append-nil}
-use Rattle.std.specs.Prelude.{IsTrue}
-use Rattle.std.proofs.lemmas.Bool.{cases_Bool}
+use Rattle.std.proofs.Common.{◌≡◌, ℕ, ◌≤◌, ◌++◌, Bool, true, false, not, if◌then◌else◌, None, Some, Option, Result, Ok, Err, List, [], length, inl, inr, refl, sym, ap, subst}
 use Rattle.sip_field.specs.Moduli.{m61_modulus}
 use Rattle.sip_ports.specs.declared.port.TalkEvent.{TalkEvent}
-use Rattle.sip_ports.specs.Ports.{ins, outs}
 use Rattle.sip_tree.specs.StandsFor.{RootStandsFor}
 use Rattle.sip_vector.specs.declared.query.Query.TheVariants.{Sub}
 use Rattle.sip_vector.specs.declared.update.Entry.{Entry}
@@ -18,7 +15,7 @@ use Rattle.sip_wire.specs.declared.message.Reason.{Reason}
 use Rattle.sip_wire.specs.declared.message.Reason.TheVariants as reasons
 use Rattle.sip_wire.specs.declared.version.Version.{Version}
 use Rattle.sip_wire.specs.Frames.{frame_bytes}
-use Rattle.sip_wire.specs.Spelling.{asked, spelling}
+use Rattle.sip_wire.specs.Spelling.{asked}
 use Rattle.sip_wire.proofs.ReadingLaws.{read_frame-closed}
 use Rattle.sip_replies.specs.declared.asking.AskStop.{AskStop}
 use Rattle.sip_replies.specs.declared.asking.AskStop.TheVariants as stops
@@ -42,7 +39,7 @@ use Rattle.sip_verifier.specs.declared.session.SessionFault.{SessionFault}
 use Rattle.sip_verifier.specs.declared.session.SessionFault.TheVariants as faults
 use Rattle.sip_verifier.specs.declared.session.Verdict.TheVariants as verdicts
 use Rattle.sip_verifier.specs.Asking as subs
-use Rattle.sip_verifier.specs.inside.Judging.{found_in, verdict_of}
+use Rattle.sip_verifier.specs.inside.Judging.{verdict_of}
 use Rattle.sip_verifier.specs.inside.Protocols.{IsProtocol}
 use Rattle.sip_verifier.specs.QuerySeats.{root_is}
 use Rattle.sip_verifier.specs.runs.Askers.{Asks}
@@ -51,8 +48,6 @@ use Rattle.sip_verifier.proofs.QueryAsked.{asks}
 use Rattle.sip_verifier.proofs.SeatAsked.{sub_protocol_is}
 use Rattle.sip_lookup.specs.declared.answer.LookAnswer.{LookAnswer}
 use Rattle.sip_lookup.specs.declared.lookup.Lookup.{Lookup}
-use Rattle.sip_lookup.specs.Frames.{ask_message}
-use Rattle.sip_lookup.specs.Hearing.{IsFound}
 use Rattle.sip_lookup.specs.Lookups.{Looked, are_alone, range_of, stated_answer}
 use Rattle.sip_lookup.specs.Questions.{looking}
 use Rattle.sip_lookup.specs.Sittings.{looked_of}
@@ -64,7 +59,7 @@ use Rattle.sip_steps.specs.declared.looking.LookStep.{LookStep}
 use Rattle.sip_steps.specs.declared.looking.LookStep.TheVariants as steps
 use Rattle.sip_steps.specs.declared.opening.Opening.{Opening}
 use Rattle.sip_steps.specs.Asked.{pairs_of}
-use Rattle.sip_steps.specs.Looked.{IsLookedBy, Proves, Refuses, SaysLooked, Seeks, asked_for, is_judged, looked_alone, looked_at, looked_by, result_map}
+use Rattle.sip_steps.specs.Looked.{IsLookedBy, Proves, Refuses, SaysLooked, Seeks, asked_for, is_judged, looked_at, looked_by, result_map}
 use Rattle.sip_steps.specs.Posed.{asked_at}
 use Rattle.sip_steps.proofs.Posings.{answers, shown}
 

@@ -1,5 +1,5 @@
 -- What a question that is asked without a link comes to is what one over a link comes to.
-use Rattle.std.proofs.Common.{◌≡◌, ℕ, ℤ, List, [], ◌++◌, Option, None, Some, Result, Ok, Err, refl, sym, subst, ap, ◌∙◌, inl, inr}
+use Rattle.std.proofs.Common.{◌≡◌, ℕ, ℤ, List, [], true, false, None, Some, Result, Ok, Err, refl, sym, subst, ap, ◌∙◌}
 use Rattle.sip_ports.specs.declared.port.TalkEvent.{TalkEvent}
 use Rattle.sip_vector.specs.declared.query.Query.{Query}
 use Rattle.sip_vector.specs.declared.update.Entry.{Entry}
@@ -26,7 +26,7 @@ use Rattle.sip_replies.specs.declared.turn.Stage.{Stage}
 use Rattle.sip_replies.specs.declared.turn.Stage.TheVariants as stages
 use Rattle.sip_replies.specs.Following.{verdict_of}
 use Rattle.sip_verifier.specs.inside.Judging as judging
-use Rattle.sip_verifier.specs.QuerySeats.{RunningNumbers, RunsOn, root_is}
+use Rattle.sip_verifier.specs.QuerySeats.{RunningNumbers, RunsOn}
 use Rattle.sip_moments.specs.Sittings as moment_sittings
 use Rattle.sip_steps.specs.declared.looking.Looking.{Looking}
 use Rattle.sip_steps.specs.declared.opening.Opening.{Opening}

@@ -124,13 +124,18 @@ pub record HasLooked (l : Looking) : Type 0 where
   pub events : List TalkEvent
   pub looked : IsLooked l.root.seat l.root.value events l
 
--- the same is asked, by the same root at the same challenges
-pub record AsksSame (old new : Looking) : Type 0 where
-  pub version : new.version ≡ old.version
-  pub depth : new.depth ≡ old.depth
-  pub lookup : new.lookup ≡ old.lookup
-  pub block : new.root.seat ≡ old.root.seat
-  pub value : new.root.value ≡ old.root.value
+-- this is asked, by a root with this value at these challenges
+pub record AsksFor (v : Version) (d : ℕ) (what : Lookup) (at : List ℕ) (n : ℕ) (l : Looking)
+    : Type 0 where
+  pub version : l.version ≡ v
+  pub depth : l.depth ≡ d
+  pub lookup : l.lookup ≡ what
+  pub block : l.root.seat ≡ at
+  pub value : l.root.value ≡ n
+
+-- the same is asked, by the same root
+abbrev pub AsksSame : Looking → Looking → Type 0
+AsksSame old new = AsksFor old.version old.depth old.lookup old.root.seat old.root.value new
 
 -- a Found is to come, or the rest of it
 abbrev pub IsSeeking : Version → ℕ → Lookup → LookStep → Type 0

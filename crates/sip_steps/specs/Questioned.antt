@@ -35,7 +35,7 @@ use Rattle.sip_steps.specs.declared.posing.Posing.{Posing}
 use Rattle.sip_steps.specs.Asked.{end_heard}
 use Rattle.sip_steps.specs.Looked as looks
 use Rattle.sip_steps.specs.Openings.{Subject, subject_at}
-use Rattle.sip_steps.specs.Posed.{IsPosed, due_at, opening_at, pairs_at, stage_at}
+use Rattle.sip_steps.specs.Posed.{IsPosed, due_at, pairs_at, stage_at}
 
 -- what is asked, at a depth in a version, at these challenges, and by these numbers of a stream
 pub record About : Type 0 where
@@ -72,7 +72,6 @@ by_opening q opening = subject_at q.version q.depth opening q.block q.running
 pub record IsOpened (q : About) (events : List TalkEvent) (p : Posing) : Type 0 where
   pub opening : Opening
   pub is : q.question ≡ question_by opening
-  pub own : opening_at p ≡ opening
   pub talk : IsPosed (by_opening q opening) events p
 
 -- it is a lookup

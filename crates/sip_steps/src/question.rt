@@ -104,6 +104,8 @@ impl QuestionAsking {
         ensures begun { IfOk result HasBegun }
         ensures asked { IfOk result (IsAskedOf (about version depth question running) []) }
     {
+        let levels = depth.get();
+        prove!(levels >= 1);
         match (question, running) {
             (Question::Query(query), running) => {
                 let opening = Opening::Query(query);

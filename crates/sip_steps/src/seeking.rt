@@ -10,7 +10,7 @@ ghost use Rattle.sip_wire.specs.Versions.{deepest};
 ghost use Rattle.sip_lookup.specs.Frames.{ask_message};
 ghost use Rattle.sip_lookup.specs.Lookups.{item_of, range_of};
 ghost use Rattle.sip_lookup.specs.Sittings.{looked_of};
-ghost use Rattle.sip_steps.specs.Looked.{AsksSame, HasLooked, HasPlaces, IsLooked, IsLookedBy};
+ghost use Rattle.sip_steps.specs.Looked.{AsksFor, AsksSame, HasLooked, HasPlaces, IsLooked, IsLookedBy};
 ghost use Rattle.sip_steps.specs.Looked.{IsSeeking, IsShown, SaysFound, SaysLooked, asked_for};
 ghost use Rattle.sip_steps.specs.Looked.{due_of, end_at, is_due_at, is_hearing_at, looked_by};
 ghost use Rattle.sip_steps.specs.Looked.{result_map};
@@ -79,6 +79,7 @@ impl Looking {
         requires shallow { depth ≤ deepest version }
         requires item { item_of lookup < 2 ^ depth }
         ensures begun { IfOk result HasLooked }
+        ensures asks { IfOk result (AsksFor version depth lookup root.seat root.value) }
         ensures looked { IfOk result (IsLooked root.seat root.value []) }
     {
         let frame = Frame::new(alloc)?;

@@ -1,15 +1,12 @@
 -- The other end closed, before the Found or behind it.
-use Rattle.std.proofs.Common.{◌++◌, List, true, sym, ap, subst, ◌∙◌}
+use Rattle.std.proofs.Common.{◌++◌, List, sym, ap, subst, ◌∙◌}
 use Rattle.sip_ports.specs.declared.port.TalkEvent.{TalkEvent}
 use Rattle.sip_vector.specs.declared.query.Query.TheVariants.{Sub}
-use Rattle.sip_wire.specs.Frames.{frame_bytes}
 use Rattle.sip_wire.specs.declared.message.Message.TheVariants as messages
-use Rattle.sip_wire.specs.declared.message.Reason.TheVariants as reasons
 use Rattle.sip_lookup.specs.Lookups.{range_of}
 use Rattle.sip_steps.specs.declared.looking.LookStep.{LookStep}
-use Rattle.sip_steps.specs.declared.looking.LookStep.TheVariants as steps
 use Rattle.sip_steps.specs.Asked.{end_heard}
-use Rattle.sip_steps.specs.Looked.{IsLookedBy, Proves, Refuses, asked_within, end_at}
+use Rattle.sip_steps.specs.Looked.{IsLookedBy, Proves, asked_within, end_at}
 use Rattle.sip_steps.proofs.LookSteps.{closed_step, proves_begun, proves_more}
 use Rattle.sip_steps.proofs.looking.Looking.close.Goals as goal
 

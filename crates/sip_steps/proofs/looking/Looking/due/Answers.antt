@@ -1,11 +1,9 @@
 -- What is due goes out: the Ask, or what is due about the interval.
-use Rattle.std.proofs.Common.{◌++◌, Bool, List, ℕ, true, false, sym, ap, subst, ◌∙◌}
+use Rattle.std.proofs.Common.{◌++◌, List, ℕ, true, sym, ap, subst, ◌∙◌}
 use Rattle.sip_ports.specs.Ports.{outs}
 use Rattle.sip_wire.specs.Frames.{frame_bytes}
-use Rattle.sip_wire.specs.Spelling.{spelling}
 use Rattle.sip_wire.specs.declared.message.Message.TheVariants as messages
 use Rattle.sip_vector.specs.declared.query.Query.TheVariants.{Sub}
-use Rattle.sip_lookup.specs.Frames.{ask_message}
 use Rattle.sip_lookup.specs.Lookups.{range_of}
 use Rattle.sip_steps.specs.declared.looking.LookStep.{LookStep}
 use Rattle.sip_steps.specs.declared.looking.LookStep.TheVariants as steps

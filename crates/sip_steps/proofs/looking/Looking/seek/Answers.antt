@@ -1,12 +1,11 @@
 -- Bytes of the Found came: a part, a fault, or a place.
-use Rattle.std.proofs.Common.{◌++◌, List, ℕ, take, true, sym, ap, subst, ◌∙◌}
+use Rattle.std.proofs.Common.{List, take, sym, ap, subst, ◌∙◌}
 use Rattle.sip_ports.specs.declared.port.TalkEvent.{TalkEvent}
-use Rattle.sip_ports.specs.Ports.{ins}
 use Rattle.sip_wire.specs.Frames.{frame_bytes}
 use Rattle.sip_steps.specs.declared.looking.LookStep.{LookStep}
 use Rattle.sip_steps.specs.declared.looking.LookStep.TheVariants as steps
 use Rattle.sip_steps.specs.Looked.{IsLookedBy, IsSeeking}
-use Rattle.sip_steps.proofs.LookSteps.{came_more, sought_places, was_asked}
+use Rattle.sip_steps.proofs.LookSteps.{came_more, was_asked}
 use Rattle.sip_steps.proofs.looking.Looking.seek.Goals as goal
 
 pub returns-clause-looked : goal.returns-clause-looked

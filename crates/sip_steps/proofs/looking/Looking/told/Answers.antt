@@ -1,15 +1,11 @@
 -- The place may not be found, or the interval that proves it is asked for.
-use Rattle.std.proofs.Common.{◌≡◌, ◌≤◌, ◌<◌, ◌^◌, List, ℕ, [], false, true, length, not, refl, sym, ap, subst, ◌∙◌}
-use Rattle.std.specs.Prelude.{IsTrue}
+use Rattle.std.proofs.Common.{◌≤◌, List, ℕ, [], length, refl, sym, subst, ◌∙◌}
 use Rattle.sip_field.specs.Moduli.{m61_modulus}
 use Rattle.sip_wire.specs.Frames.{frame_bytes}
-use Rattle.sip_wire.specs.Spelling.{fits}
-use Rattle.sip_wire.specs.Versions.{deepest}
 use Rattle.sip_wire.specs.declared.message.Message.TheVariants as messages
 use Rattle.sip_vector.specs.declared.query.Query.TheVariants.{Sub}
 use Rattle.sip_subvec.specs.Asking.{SubStands, most_answer, phase_of}
 use Rattle.sip_subvec.specs.Protocol.{sub_asked, sub_protocol}
-use Rattle.sip_lookup.specs.Lookups.{range_of}
 use Rattle.sip_verifier.proofs.RootAsked.{interval_fits}
 use Rattle.sip_steps.specs.Asked.{IsAsked}
 use Rattle.sip_steps.specs.Looked.{asked_within}
