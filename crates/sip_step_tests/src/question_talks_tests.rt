@@ -1,4 +1,4 @@
-// A helper of questions without a link, over a talk of every kind that comes in pieces of many sizes.
+// A helper of questions without a link, over a talk of every kind in pieces of many sizes.
 use crate::frames::{
     CUBES, ENTRY, ENTRY_0, F2, FOUND_0, FOUND_1, FOUND_2, HEAVY_4, INDEX_1, LAST, LEAVES, LEFT_3,
     NINE, NO_SIBLINGS, NODES, PRED_1, RANGE, REVEAL, RIGHT_7, SIX, SQUARES, SUB_0_1, SUB_1_1,

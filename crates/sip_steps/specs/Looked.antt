@@ -77,7 +77,8 @@ module _ (version : Version) (depth : ℕ) (lookup : Lookup) (block : List ℕ) 
   -- sent
   abbrev pub Seeks : List TalkEvent → List ℕ → Bool → Type 0
   Seeks events part true =
-      (events ≡ asked_for version lookup ++ ins part) × (length part < asked version places.Found part)
+      (events ≡ asked_for version lookup ++ ins part)
+      × (length part < asked version places.Found part)
   Seeks events part false = (events ≡ []) × (part ≡ [])
 
   -- the Found has this fault, or names a place that may not be found

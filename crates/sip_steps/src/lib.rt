@@ -5,9 +5,9 @@
 //! by [`feed`](Asking::feed), and [`verdict`](Asking::verdict) says what came of it.
 //! [`QuestionAsking`] is the same as one type for a question of any kind, by the running numbers of
 //! a stream: so questions of several kinds can be asked one after another in one talk. It is a
-//! [`Posing`], for every query and every moment, or a [`Looking`], for a lookup, whose place is told
-//! before the entries that prove it are asked for. [`Serving`] is the helper's end of a talk, of
-//! whatever helper.
+//! [`Posing`], for every query and every moment, or a [`Looking`], for a lookup, of which the place
+//! is told before the entries that prove it are asked for. [`Serving`] is the helper's end of a
+//! talk, of whatever helper.
 //!
 //! # What is proved
 //!
@@ -15,8 +15,8 @@
 //!   whoever asks over a link has it, and the verdict is the answer of that talk. While it waits no
 //!   answer is possible by the bytes so far, and it owes no byte ([`laws`]).
 //! - The same of `QuestionAsking`, said of each stream whose numbers the question is judged by, in
-//!   the manner of questions, and of `Posing`, in the manner of its kind: so in the words in which a
-//!   run promises it over a link.
+//!   the manner of questions, and of `Posing`, in the manner of its kind: so in the words in which
+//!   a run promises it over a link.
 //! - The bytes that `Serving` took and sent are turns of its helper's rules, and its status says
 //!   how the talk ended, as of a talk on a link.
 //! - Of bytes behind the end of a question or of a talk none is taken.

@@ -1,8 +1,7 @@
 //! A question of any kind, asked without a link.
 
-ghost use Rattle.std.specs.Prelude.{◌≡◌, ◌≤◌, ◌++◌, [], List, false, true, IfOk, IsTrue, OnErr, OnOk};
-ghost use Rattle.std.specs.Prelude.{length, take};
-ghost use Rattle.std.specs.Option.{option_map};
+ghost use Rattle.std.specs.Prelude.{◌≡◌, ◌≤◌, ◌++◌, [], List, false, true, IfOk, IsTrue, OnErr};
+ghost use Rattle.std.specs.Prelude.{OnOk, length, take};
 ghost use Rattle.sip_ports.specs.declared.port.TalkEvent.{TalkEvent as AnyEvent};
 ghost use Rattle.sip_ports.specs.Ports.{HasCause, SendsWhole, ins, outs};
 ghost use Rattle.sip_vector.specs.declared.update.Update.{Update as AnyUpdate};

@@ -1,6 +1,6 @@
 //! How a lookup that is asked without a link goes on.
 
-ghost use Rattle.std.specs.Prelude.{◌≡◌, ◌≢◌, ◌≤◌, ◌<◌, ◌^◌, ◌++◌, [], List, ℕ, false, true};
+ghost use Rattle.std.specs.Prelude.{◌≡◌, ◌≤◌, ◌<◌, ◌^◌, ◌++◌, [], List, false, true};
 ghost use Rattle.std.specs.Prelude.{IfOk, OnErr, OnOk, None, Ok, length, take};
 ghost use Rattle.sip_ports.specs.declared.port.TalkEvent.{TalkEvent as AnyEvent};
 ghost use Rattle.sip_ports.specs.Ports.{HasCause, SendsWhole, ins, outs};
@@ -10,7 +10,8 @@ ghost use Rattle.sip_wire.specs.Versions.{deepest};
 ghost use Rattle.sip_lookup.specs.Frames.{ask_message};
 ghost use Rattle.sip_lookup.specs.Lookups.{item_of, range_of};
 ghost use Rattle.sip_lookup.specs.Sittings.{looked_of};
-ghost use Rattle.sip_steps.specs.Looked.{AsksFor, AsksSame, HasLooked, HasPlaces, IsLooked, IsLookedBy};
+ghost use Rattle.sip_steps.specs.Looked.{AsksFor, AsksSame, HasLooked, HasPlaces, IsLooked};
+ghost use Rattle.sip_steps.specs.Looked.{IsLookedBy};
 ghost use Rattle.sip_steps.specs.Looked.{IsSeeking, IsShown, SaysFound, SaysLooked, asked_for};
 ghost use Rattle.sip_steps.specs.Looked.{due_of, end_at, is_due_at, is_hearing_at, looked_by};
 ghost use Rattle.sip_steps.specs.Looked.{result_map};
@@ -62,8 +63,8 @@ impl Looking {
     /// Before anything was said, by the root of side 0. It serves this lookup alone: the other end
     /// knows all but one of its challenges from then on.
     ///
-    /// Takes a frame of 8,709 bytes, and 16 bytes for each entry that the answer may have: one at an
-    /// item, and else one for each item on its side, up to 65,536.
+    /// Takes a frame of 8,709 bytes, and 16 bytes for each entry that the answer may have: one at
+    /// an item, and else one for each item on its side, up to 65,536.
     ///
     /// # Errors
     ///
@@ -156,8 +157,8 @@ impl Looking {
         }
     }
 
-    // The step behind a place that was told, whose bytes are in the frame of this room. Where it may
-    // be found, the entries that prove it are asked for.
+    // The step behind a place that was told, whose bytes are in the frame of this room. Where it
+    // may be found, the entries that prove it are asked for.
     fn told(&self, mut room: Room, found: Option<u64>) -> LookStep
         requires shown { IsShown self.now.version (frame_bytes room.frame) (Ok found) }
         requires places { HasPlaces self.now.depth self.now.lookup room.places.items }
