@@ -2,6 +2,7 @@
 use crate::asking::begun;
 use crate::facts::expect;
 use crate::serving_tests::STREAM;
+use crate::sizes::{Sizes, piece_of};
 use sip_check_tests::events::sent_in;
 use sip_helper::HelperCore;
 use sip_ports::{MemoryLink, MemorySink};
@@ -11,40 +12,9 @@ use sip_vector::Entry;
 use std::alloc::Global;
 use std::test::Fail;
 
-// Small numbers in no order, by a linear congruence.
-#[derive(Drop)]
-struct Sizes {
-    state: u64,
-}
-
-impl Sizes {
-    // A number from 0 to 8.
-    fn next(&mut self) -> usize {
-        self.state = self
-            .state
-            .wrapping_mul(6_364_136_223_846_793_005)
-            .wrapping_add(1_442_695_040_888_963_407);
-        (self.state >> 33) as usize % 9
-    }
-}
-
-// So many bytes behind the first few, or all that there are.
-fn piece_of(bytes: &[u8], from: usize, size: usize) -> &[u8] {
-    let rest = if from < bytes.len() {
-        &bytes[from..]
-    } else {
-        &[]
-    };
-    if size < rest.len() {
-        &rest[..size]
-    } else {
-        rest
-    }
-}
-
 // Whether the question has its answer behind so many turns of both, with pieces by this seed.
 fn is_answered(alloc: Global, seed: u64) -> Result<[bool; 2], Fail> {
-    let mut sizes = Sizes { state: seed };
+    let mut sizes = Sizes::Any(seed);
     let mut serving = Serving::begin(alloc, HelperCore::new(alloc))?;
     let mut replies = MemorySink::new(alloc, 100, Vec::new(alloc));
     serving.feed(&STREAM, &mut replies);

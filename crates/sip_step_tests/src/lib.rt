@@ -11,8 +11,20 @@ mod both_ends_tests;
 #[cfg(test)]
 mod facts;
 #[cfg(test)]
+mod frames;
+#[cfg(test)]
+mod kinds;
+#[cfg(test)]
+mod kinds_tests;
+#[cfg(test)]
 mod pieces;
+#[cfg(test)]
+mod question_ends_tests;
+#[cfg(test)]
+mod question_talks_tests;
 #[cfg(test)]
 mod serving;
 #[cfg(test)]
 mod serving_tests;
+#[cfg(test)]
+mod sizes;

@@ -1,2 +1,11 @@
+pub mod Awaiting
+pub mod Beginnings
+pub mod Calls
+pub mod Cases
+pub mod Founds
+pub mod LookSteps
+pub mod Lookings
 pub mod OneQuestion
 pub mod OneTalk
+pub mod Posings
+pub mod Questionings

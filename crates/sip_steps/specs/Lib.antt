@@ -1,2 +1,6 @@
 pub mod Asked
+pub mod Looked
+pub mod Openings
+pub mod Posed
+pub mod Questioned
 pub mod Served

@@ -5,6 +5,7 @@ ghost use Rattle.std.specs.Prelude.{IsTrue, OnOk, OnErr, Ok, Some};
 ghost use Rattle.sip_ports.specs.declared.port.TalkEvent.{TalkEvent as AnyEvent};
 ghost use Rattle.sip_ports.specs.Ports.{HasCause, SendsWhole, ins, outs};
 ghost use Rattle.sip_wire.specs.declared.message.Message.{Message as AnyMessage};
+ghost use Rattle.sip_wire.specs.Frames.{frame_bytes};
 ghost use Rattle.sip_wire.specs.Spelling.{fits};
 ghost use Rattle.sip_replies.specs.Following.{is_due, is_hearing, verdict_of};
 ghost use Rattle.sip_replies.specs.Protocols.{Begins};
@@ -58,14 +59,41 @@ impl<C: Check + Drop, Q: Request + Drop> Asking<C, Q> {
             (C.phase check).block [] a) }
     {
         let frame = Frame::new(alloc)?;
+        Ok(Asking::over(check, version, request, places, frame))
+    }
+
+    /// The same in a frame that has no bytes, for which no memory is taken.
+    pub(crate) fn over(
+        check: C,
+        version: Version,
+        request: Q,
+        places: Vec<Entry>,
+        frame: Frame,
+    ) -> Self
+        requires begins { Begins (C.phase check) }
+        requires fits { IsTrue (fits version (Q.message request)) }
+        requires empty { frame_bytes frame ≡ [] }
+        ensures asked { (asked : C.Asked) → (C.protocol asked).rules.version ≡ version
+            → C.stands asked (C.protocol asked).rules.start check places.items
+            → IsAsked (C.protocol asked) (C.stands asked) C.phase Q.message (Q.message request)
+            (C.phase check).block [] result }
+        ensures silent { is_hearing result.turn.stage ≡ false }
+    {
         let turn = Turn::begin(&check, version);
-        Ok(Asking {
+        Asking {
             check,
             request,
             places,
             frame,
             turn,
-        })
+        }
+    }
+
+    /// What is asked.
+    pub fn request(&self) -> &Q
+        ensures { result.now ≡ self.now.request }
+    {
+        &self.request
     }
 
     /// Bytes are to be sent.

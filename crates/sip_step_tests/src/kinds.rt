@@ -1,0 +1,137 @@
+// Questions of every kind that are driven by hand, over the vector (3, 0, 5, 1) at the challenges 2
+// and 10.
+ghost use Rattle.std.specs.Prelude.{◌≡◌, IfOk, IfSome, IsTrue};
+ghost use Rattle.sip_verifier.specs.QuerySeats.{keeps};
+ghost use Rattle.sip_verifier.specs.Running.{block_of, numbers_of};
+ghost use Rattle.sip_steps.specs.Questioned.{HasBegun};
+
+use sip_check_tests::events::sent_in;
+use sip_field::{Field, M61, Seat};
+use sip_lookup::write_look;
+use sip_mle::Point;
+use sip_moments::write_moment;
+use sip_ports::{MemoryLink, MemorySink, PortStop};
+use sip_questions::{Question, QuestionGiven};
+use sip_steps::QuestionAsking;
+use sip_tree::{AugRoot, Root};
+use sip_vector::{CAP, Depth, Entry, Query};
+use sip_verifier::{Running, Unanswered, write_number, write_pairs};
+use sip_wire::Version;
+use std::alloc::Global;
+use std::test::Fail;
+
+// The numbers of that vector that a query is judged by, at these challenges: its root is 73, its
+// extension -3, and its augmented root 8739 with the total 9.
+fn running_of(query: &Query, seat: Seat<M61, CAP>) -> Option<Running>
+    ensures keeps { IfSome result (λ running. IsTrue (keeps query.now (numbers_of running))) }
+    ensures block { IfSome result (λ running. block_of running ≡ seat) }
+{
+    match query {
+        Query::Sub { .. } => Some(Running::Root(Root { seat, value: 73 })),
+        Query::Range { .. } | Query::F2 { .. } => Some(Running::Point(Point {
+            seat,
+            value: (1 << 61) - 4,
+        })),
+        Query::Heavy { .. } => Some(Running::AugRoot(AugRoot {
+            seat,
+            hash: 8739,
+            total: 9,
+        })),
+        _ => None,
+    }
+}
+
+// A question, before anything was said; none that cannot be asked.
+pub(crate) fn begun(alloc: Global, question: Question) -> Result<Option<QuestionAsking>, Fail>
+    ensures { IfOk result (λ asking. IfSome asking HasBegun) }
+{
+    let Some(depth) = Depth::new(2) else {
+        return Ok(None);
+    };
+    if !question.can_pose(Version::One, depth) {
+        return Ok(None);
+    }
+    let Some(seat) = Seat::of(&[M61::of(2), M61::of(10)]) else {
+        return Ok(None);
+    };
+    let Some(running) = running_of(&question.query_like(), seat) else {
+        return Ok(None);
+    };
+    Ok(Some(QuestionAsking::begin(alloc, Version::One, depth, question, running)?))
+}
+
+// Feeds bytes, and sends what is due whenever something is. Answers how many bytes were taken.
+fn pass(asking: &mut QuestionAsking, bytes: &[u8], link: &mut MemoryLink) -> Result<usize, PortStop>
+    requires begun { HasBegun asking.old }
+    ensures begun { HasBegun asking.new }
+{
+    let mut taken = 0;
+    asking.due(link)?;
+    while taken < bytes.len() {
+        let count = asking.feed(&bytes[taken..]);
+        if count == 0 {
+            return Ok(taken);
+        }
+        taken += count;
+        asking.due(link)?;
+    }
+    Ok(taken)
+}
+
+// What came of a question: the line of its answer, or why it has none; how many bytes were taken,
+// and what was sent.
+#[derive(Drop)]
+pub(crate) struct Outcome {
+    pub(crate) line: Option<Result<Vec<u8>, Unanswered>>,
+    pub(crate) taken: usize,
+    pub(crate) sent: Vec<u8>,
+}
+
+// The line of an answer, of which these pairs are shown.
+fn line_of(alloc: Global, given: &QuestionGiven, pairs: &[Entry]) -> Result<Vec<u8>, Fail> {
+    let mut report = MemorySink::new(alloc, 100, Vec::new(alloc));
+    match given {
+        QuestionGiven::Number { query, value } => write_number(&mut report, query, *value)?,
+        QuestionGiven::Pairs { query } => write_pairs(&mut report, query, pairs)?,
+        QuestionGiven::Lookup { lookup, answer } => write_look(&mut report, *lookup, *answer)?,
+        QuestionGiven::Moment { moment, value } => write_moment(&mut report, *moment, *value)?,
+    }
+    Ok(report.bytes().to_vec(alloc)?)
+}
+
+// The line of what is said of a question, once something is.
+pub(crate) fn said_of(
+    alloc: Global,
+    asking: &QuestionAsking,
+) -> Result<Option<Result<Vec<u8>, Unanswered>>, Fail> {
+    match asking.verdict() {
+        None => Ok(None),
+        Some(Err(why)) => Ok(Some(Err(why))),
+        Some(Ok(given)) => Ok(Some(Ok(line_of(alloc, &given, asking.pairs())?))),
+    }
+}
+
+// Asks a question of an other end that says these pieces, and then closes or not.
+pub(crate) fn asked(
+    alloc: Global,
+    question: Question,
+    pieces: &[&[u8]],
+    closes: bool,
+) -> Result<Option<Outcome>, Fail> {
+    let Some(mut asking) = begun(alloc, question)? else {
+        return Ok(None);
+    };
+    let mut link = MemoryLink::new(alloc, Vec::new(alloc), 3, Vec::new(alloc));
+    let mut taken = pass(&mut asking, &[], &mut link)?;
+    for piece in pieces {
+        taken = taken.saturating_add(pass(&mut asking, piece, &mut link)?);
+    }
+    if closes {
+        asking.close();
+    }
+    Ok(Some(Outcome {
+        line: said_of(alloc, &asking)?,
+        taken,
+        sent: sent_in(alloc, link.talk())?,
+    }))
+}
