@@ -8,7 +8,7 @@ use sip_command_tests::case::Case;
 use sip_keeping::{SeatsLeft, advise_ask, advise_ask_words, finish_ask, tell_left};
 use sip_ports::MemorySink;
 use sip_wire::{Held, Reason};
-use sip_word_tests::endings::{NOTHING, expect_front, expect_whole, failing_sink, wide_sink};
+use sip_word_tests::endings::{NOTHING, ended_in_front, ended_whole, failing_sink, wide_sink};
 use sip_word_tests::words::words_between;
 use sip_words::{Usage, Words};
 use std::alloc::Global;
@@ -172,7 +172,7 @@ fn check_endings(rt: &impl Abort, alloc: Global, rows: &[Row]) {
         let mut sink = wide_sink(alloc);
         let ending = finish_ask(status, &mut sink);
         let number = index as u64;
-        expect_whole(rt, Case { name, number }, *code, ending, &sink);
+        ended_whole(Case { name, number }, *code, ending, &sink).expect(rt, "an ending");
     }
 }
 
@@ -182,7 +182,7 @@ fn each_status_of_an_ask_has_its_line_and_code(rt: HostRuntime) -> Result<(), Fa
     check_endings(&rt, alloc, ROWS);
     let mut sink = failing_sink(alloc)?;
     let ending = finish_ask(&AskStatus::NotWhole, &mut sink);
-    expect_front(&rt, ending, &sink);
+    ended_in_front(ending, &sink).expect(&rt, "a front");
     Ok(())
 }
 

@@ -5,7 +5,7 @@ use sip_keeping::finish_sketch;
 use sip_sketch::{SketchPort, SketchStatus, Unlike};
 use sip_stream::Why;
 use sip_vector::Side;
-use sip_word_tests::endings::{expect_front, expect_whole, failing_sink, wide_sink};
+use sip_word_tests::endings::{ended_in_front, ended_whole, failing_sink, wide_sink};
 use std::alloc::Global;
 use std::process::Abort;
 use std::test::Fail;
@@ -191,7 +191,7 @@ fn check_endings(rt: &impl Abort, alloc: Global, rows: &[Ending]) {
         let mut sink = wide_sink(alloc);
         let ending = finish_sketch(status, &mut sink);
         let number = index as u64;
-        expect_whole(rt, Case { name, number }, *code, ending, &sink);
+        ended_whole(Case { name, number }, *code, ending, &sink).expect(rt, "an ending");
     }
 }
 
@@ -201,6 +201,6 @@ fn each_status_of_a_sketch_has_its_line_and_code(rt: HostRuntime) -> Result<(), 
     check_endings(&rt, alloc, ENDINGS);
     let mut sink = failing_sink(alloc)?;
     let ending = finish_sketch(&SketchStatus::Busy, &mut sink);
-    expect_front(&rt, ending, &sink);
+    ended_in_front(ending, &sink).expect(&rt, "a front");
     Ok(())
 }

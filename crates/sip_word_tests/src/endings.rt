@@ -1,11 +1,10 @@
 //! How a status ends the program: its code, its line, and what is noted for the advice behind it.
 
 use sip_advice::{Ending, Noted, SeedLook};
-use sip_command_tests::case::Case;
+use sip_command_tests::case::{Case, Miss};
 use sip_ports::{MemorySink, PortStop};
 use sip_vector::Negatives;
 use std::alloc::Global;
-use std::process::Abort;
 use std::test::Fail;
 
 /// A seed of which there is nothing to say.
@@ -42,21 +41,23 @@ pub fn failing_sink(alloc: Global) -> Result<MemorySink, Fail> {
 }
 
 /// A status ended with this code, and the line that the case is named by was written whole.
-pub fn expect_whole(rt: &impl Abort, case: Case<'_>, code: u8, ending: Ending, sink: &MemorySink) {
-    case.holds(ending.code == code && ending.line == Ok(()))
-        .expect(rt, "a code");
+pub fn ended_whole<'a>(
+    case: Case<'a>,
+    code: u8,
+    ending: Ending,
+    sink: &MemorySink,
+) -> Result<(), Miss<'a>> {
+    case.holds(ending.code == code && ending.line == Ok(()))?;
     case.writes(sink.bytes(), case.name.as_bytes())
-        .expect(rt, "a line");
 }
 
 /// A refusal whose line could not be written behind its fifth byte: a front of it stands there, and
 /// the code is its own.
-pub fn expect_front(rt: &impl Abort, ending: Ending, sink: &MemorySink) {
+pub fn ended_in_front(ending: Ending, sink: &MemorySink) -> Result<(), Miss<'static>> {
     let case = Case {
         name: "the sixth write fails",
         number: 6,
     };
-    case.holds(ending.code == 3 && ending.line == Err(PortStop::Failed))
-        .expect(rt, "a code");
-    case.writes(sink.bytes(), b"sip: ").expect(rt, "a front");
+    case.holds(ending.code == 3 && ending.line == Err(PortStop::Failed))?;
+    case.writes(sink.bytes(), b"sip: ")
 }

@@ -1,6 +1,6 @@
 // The line and the exit code that each status has.
 
-use crate::endings::{expect_front, expect_whole, failing_sink, wide_sink};
+use crate::endings::{ended_in_front, ended_whole, failing_sink, wide_sink};
 use sip_advice::finish;
 use sip_command_tests::case::Case;
 use sip_stream::Why;
@@ -134,7 +134,7 @@ fn check_endings(rt: &impl Abort, alloc: Global, rows: &[Ending]) {
         let mut sink = wide_sink(alloc);
         let ending = finish(status, &mut sink);
         let number = index as u64;
-        expect_whole(rt, Case { name, number }, *code, ending, &sink);
+        ended_whole(Case { name, number }, *code, ending, &sink).expect(rt, "an ending");
     }
 }
 
@@ -144,6 +144,6 @@ fn each_status_has_its_line_and_code(rt: HostRuntime) -> Result<(), Fail> {
     check_endings(&rt, alloc, ENDINGS);
     let mut sink = failing_sink(alloc)?;
     let ending = finish(&Status::BadSeed, &mut sink);
-    expect_front(&rt, ending, &sink);
+    ended_in_front(ending, &sink).expect(&rt, "a front");
     Ok(())
 }
