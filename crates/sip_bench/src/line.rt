@@ -25,6 +25,9 @@ pub(crate) enum Part {
     Siblings,
     Moment3,
     Moment8,
+    Pieces1,
+    Pieces7,
+    Whole,
 }
 
 impl Part {
@@ -48,6 +51,9 @@ impl Part {
             Part::Siblings => "siblings",
             Part::Moment3 => "moment3",
             Part::Moment8 => "moment8",
+            Part::Pieces1 => "pieces1",
+            Part::Pieces7 => "pieces7",
+            Part::Whole => "whole",
         }
     }
 }

@@ -1,4 +1,5 @@
-//! Times the verifier's running numbers, its reader, and the helper's vector, siblings and moments.
+//! Times the verifier's running numbers, its reader, a question whose reply comes in pieces, and
+//! the helper's vector, siblings and moments.
 //!
 //! Each word names a part and a depth, as `root-20`: a root over 2^20 items, fed by blocks of 512
 //! updates. Without words it does nothing. A part prints a line `NAME DEPTH COUNT NANOSECONDS
@@ -11,6 +12,7 @@ mod held;
 mod line;
 mod many;
 mod moments;
+mod pieces;
 mod stream;
 mod streams;
 mod vectors;
@@ -53,6 +55,9 @@ fn line_of(clock: &impl Clock, alloc: Global, word: &str) -> io::Result<Line> {
         "siblings" => vectors::siblings(clock, alloc, depth),
         "moment3" => moments::prover(clock, alloc, Part::Moment3, depth, 3),
         "moment8" => moments::prover(clock, alloc, Part::Moment8, depth, 8),
+        "pieces1" => pieces::fed_in(clock, alloc, Part::Pieces1, depth, 1),
+        "pieces7" => pieces::fed_in(clock, alloc, Part::Pieces7, depth, 7),
+        "whole" => pieces::fed_in(clock, alloc, Part::Whole, depth, 1 << 20),
         _ => Err(io::ErrorKind::InvalidInput.into()),
     }
 }

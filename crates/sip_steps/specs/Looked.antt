@@ -7,7 +7,11 @@ use Rattle.sip_ports.specs.declared.port.TalkEvent.{TalkEvent}
 use Rattle.sip_ports.specs.declared.port.TalkEvent.TheVariants.{Ended}
 use Rattle.sip_ports.specs.Ports.{ins, outs}
 use Rattle.sip_vector.specs.declared.query.Query.TheVariants.{Sub}
+use Rattle.sip_tree.specs.StandsFor.{RootStandsFor}
 use Rattle.sip_vector.specs.declared.update.Entry.{Entry}
+use Rattle.sip_vector.specs.declared.update.Side.TheVariants.{First}
+use Rattle.sip_vector.specs.declared.update.Update.{Update}
+use Rattle.sip_vector.specs.Streams.{vector}
 use Rattle.sip_vector.specs.Steps.{◌>>=◌}
 use Rattle.sip_wire.specs.declared.kind.Place.TheVariants as places
 use Rattle.sip_wire.specs.declared.message.Message.TheVariants as messages
@@ -205,3 +209,8 @@ abbrev pub SaysLooked : ℕ → Lookup → LookStep → Option (Result LookAnswe
 SaysLooked depth lookup step None = is_judged step ≡ false
 SaysLooked depth lookup step (Some said) = (is_judged step ≡ true)
     × (result_map looked_of said ≡ looked_at depth lookup step)
+
+-- it is asked by the root of side 0 of this stream, at one challenge at least
+pub record IsRootOf (l : Looking) (stream : List Update) : Type 0 where
+  pub some : 1 ≤ length l.root.seat
+  pub stands : RootStandsFor m61_modulus l.root.seat l.root.value (vector l.depth stream First)

@@ -1,12 +1,21 @@
 //! What holds of both ends. These functions do nothing: each contract is a fact that holds.
 
-ghost use Rattle.std.specs.Prelude.{◌≡◌, ℕ, List, true};
+ghost use Rattle.std.specs.Prelude.{◌≡◌, ℕ, List, Some, [], true};
+ghost use Rattle.std.specs.declared.result.Result.{Result as AnyResult};
 ghost use Rattle.sip_ports.specs.declared.port.TalkEvent.{TalkEvent as AnyEvent};
 ghost use Rattle.sip_wire.specs.declared.message.Message.{Message as AnyMessage};
 ghost use Rattle.sip_replies.specs.Feeding.{Means};
 ghost use Rattle.sip_replies.specs.Following.{is_hearing};
 ghost use Rattle.sip_vector.specs.declared.update.Update.{Update as AnyUpdate};
+ghost use Rattle.sip_verifier.specs.declared.asker.Unanswered.{Unanswered as AnyUnanswered};
+ghost use Rattle.sip_verifier.specs.runs.Askers.{Asks};
+ghost use Rattle.sip_lookup.specs.declared.answer.LookAnswer.{LookAnswer as AnyAnswer};
+ghost use Rattle.sip_lookup.specs.Questions.{looking};
+ghost use Rattle.sip_lookup.specs.Sittings.{looked_of};
 ghost use Rattle.sip_steps.specs.declared.asking.Asking.{Asking as AnyAsking};
+ghost use Rattle.sip_steps.specs.declared.looking.Looking.{Looking as AnyLooking};
+ghost use Rattle.sip_steps.specs.Looked as looked;
+ghost use Rattle.sip_steps.specs.Looked.{IsLooked, IsRootOf, SaysLooked};
 ghost use Rattle.sip_steps.specs.Asked.{IsAsked};
 ghost use Rattle.sip_steps.specs.declared.posing.Posing.{Posing as AnyPosing};
 ghost use Rattle.sip_steps.specs.Openings.{IsOf, Subject};
@@ -38,6 +47,21 @@ pub fn posings_are_asked()
     ensures waits { (s : Subject) (stream : List AnyUpdate) (events : List AnyEvent)
         (p : AnyPosing) → IsOf s stream → IsPosed s events p → is_hearing (stage_at p) ≡ true
         → WaitsFor s stream events s.opening }
+{}
+
+/// The same of a lookup, about each stream of whose side 0 it has the root, at one challenge at
+/// least.
+pub fn lookups_are_asked()
+    ensures comes { (stream : List AnyUpdate) (events : List AnyEvent) (l : AnyLooking)
+        (said : AnyResult AnyAnswer AnyUnanswered) → IsRootOf l stream
+        → IsLooked l.root.seat l.root.value events l
+        → SaysLooked l.depth l.lookup l.step (Some said)
+        → Asks (looking l.version l.depth stream) (l.lookup, l.root.seat) (Some []) (Some events)
+        (λ given answer. looked_of given ≡ answer) said }
+    ensures waits { (stream : List AnyUpdate) (events : List AnyEvent) (l : AnyLooking)
+        → IsRootOf l stream → IsLooked l.root.seat l.root.value events l
+        → looked.is_hearing_at l.step ≡ true
+        → Waits (looking l.version l.depth stream) l.lookup l.root.seat events }
 {}
 
 /// While bytes of a question of any kind are to come, all that was due was said, and no answer is
