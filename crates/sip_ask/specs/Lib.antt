@@ -1,6 +1,7 @@
 pub mod Asking
 pub mod Causes
 pub mod Choosing
+pub mod Completeness
 pub mod Counting
 pub mod Examples
 pub mod Marking
