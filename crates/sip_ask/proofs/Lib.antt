@@ -22,6 +22,7 @@ mod Saying
 mod SeatSteps
 mod Seats
 mod Served
+mod SketchCounted
 mod SketchRuns
 mod StepsTaken
 mod Stops

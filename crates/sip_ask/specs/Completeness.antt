@@ -1,11 +1,11 @@
 -- Completeness of an ask.
 --
--- Let the file be that of a sketch which stands for a stream and has seats for questions that may be
--- asked of it. Let the link give what an honest helper sends, or a front of it, and not end: what
--- the sketch has of its stream, and then the replies at the blocks of the seats. The helper may keep
--- other records that have the same vectors, as the same ones in another order. If no fault rises and
--- no other process has the sketch, then each question is accepted, and the report has the stream's
--- own answers; or memory ran out.
+-- Let the file be that of a sketch which stands for a stream and has seats for questions that may
+-- be asked of it. Let the link give what an honest helper sends, or a front of it, and not end:
+-- what the sketch has of its stream, and then the replies at the blocks of the seats. The helper
+-- may keep other records that have the same vectors, as the same ones in another order. If no fault
+-- rises and no other process has the sketch, then each question is accepted, and the report has the
+-- stream's own answers; or memory ran out.
 use Rattle.std.specs.Prelude.{◌≡◌, ◌≢◌, ◌⊎◌, ℕ, ◌≤◌, ⊤, List, ◌++◌, length, map, flat_map, All}
 use Rattle.std.specs.Prelude.{Some, Ok}
 use Rattle.std.specs.List.{zip}

@@ -7,5 +7,6 @@ pub mod Examples
 pub mod Marking
 pub mod Promises
 pub mod Runs
+pub mod SketchCounts
 pub mod Turns
 pub mod inside

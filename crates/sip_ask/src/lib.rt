@@ -25,6 +25,8 @@
 //!   for ([`laws::asks_keep_their_promises`]); each has bytes, so that these are no empty promises
 //!   ([`laws::each_legal_stream_has_bytes`]). Of a sketch that stands for none, as one that was
 //!   made by hand, only the order of what is stored and sent is told.
+//! - [`ask`] carries the count over all seats of the sketch (`CountOnSketches`), of which the laws
+//!   below are the parts.
 //! - Whatever order the seats are used in, and however questions are chosen by what was revealed of
 //!   others, a helper has a wrong answer accepted at few vectors of challenges
 //!   ([`laws::few_vectors_mislead_a_sketch`]), and where it has one the sketch's own challenges are
@@ -44,6 +46,7 @@
 //! | `Promises` | of which exchange of a run it keeps the promises |
 //! | `Runs` | runs over one file, each cut off somewhere, and that no seat serves two questions |
 //! | `Counting` | what may become of each seat, and which wrong answers are counted |
+//! | `SketchCounts` | that a wrong answer in a line of an ask is counted |
 //! | `Examples` | what the examples work out |
 //!
 //! [`examples`] works out which seats questions take, and the file of a sketch with a used seat.
