@@ -2,18 +2,18 @@
 #![tactic(auto)]
 
 mod asking;
+mod beside;
+mod desks;
 mod ends;
+mod late;
 mod named_files;
 mod sketching;
 mod start;
 mod store;
 
 ghost use Rattle.std.specs.Prelude.{◌≡◌, ◌⊎◌, ◌↔◌, ℕ, List, IsTrue, IfSome, IsSome, None};
+ghost use Rattle.sip.specs.Endings.{ProgramEnds};
 ghost use Rattle.sip_verifier.specs.declared.status.Status.{Status as AnyStatus};
-ghost use Rattle.sip_ask.specs.declared.status.AskStatus.{AskStatus as AnyAskStatus};
-ghost use Rattle.sip_keeping.specs.AskEndings.{code_of_ask};
-ghost use Rattle.sip_keeping.specs.Endings.{code_of_sketch};
-ghost use Rattle.sip_sketch.specs.declared.status.SketchStatus.{SketchStatus as AnySketchStatus};
 ghost use Rattle.sip_words.specs.declared.command.Command.{Command as AnyCommand};
 ghost use Rattle.sip_words.specs.declared.sparing.PlanFiles.{PlanFiles as AnyFiles};
 ghost use Rattle.sip_advice.specs.Exit.{code_of};
@@ -455,12 +455,9 @@ fn plain_ending(rt: &HostRuntime, words: &Words, tells: bool) -> Ending
     ended(rt, words, &noted, &status)
 }
 
-/// Does what the words say, and writes what went wrong and what can be done about it. The code is
-/// that of a status.
+/// Does what the words say, and writes what went wrong and what can be done about it.
 fn ending(rt: &HostRuntime) -> Ending
-    ensures { ((status : AnySketchStatus) × (result.code ≡ code_of_sketch status))
-        ⊎ ((status : AnyAskStatus) × (result.code ≡ code_of_ask status))
-        ⊎ ((status : AnyStatus) × (result.code ≡ code_of status)) }
+    ensures { ProgramEnds result }
 {
     match words(rt) {
         Ok(given) => {

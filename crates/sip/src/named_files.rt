@@ -1,14 +1,32 @@
 //! The files of sketches that words name, which are only read.
 
-ghost use Rattle.std.specs.Prelude.{◌≡◌, ◌<◌, ◌≤◌, ◌^◌, ◌+◌, ◌-◌, min, length, None, IfOk, IfSome};
-ghost use Rattle.std.specs.Prelude.{IsErrOf};
+ghost use Rattle.std.specs.Prelude.{◌≡◌, ◌<◌, ◌≤◌, ◌^◌, ◌+◌, ◌-◌, min, length, None, Some, IfOk};
+ghost use Rattle.std.specs.Prelude.{IfSome, IsErrOf};
+ghost use Rattle.sip_keeping.specs.SketchPlan.{file_opening};
 ghost use Rattle.sip_ports.specs.Ports.{HasCause};
+ghost use Rattle.sip_words.specs.Plan.{file_name};
 
 use sip_keeping::file_opening;
-use sip_ports::{DeskStop, PortStop, load_file};
+use sip_ports::{DeskStop, LONGEST_LOAD, PortStop, load_file};
 use sip_sketch::SketchFiles;
 use sip_words::Words;
 use std::alloc::Global;
+
+/// What the file has that the words name by this number; see [`load_file`].
+pub(crate) fn load_named(
+    rt: &HostRuntime,
+    alloc: Global,
+    words: &Words,
+    number: u32,
+    name: &str,
+) -> Result<Option<Vec<u8>>, DeskStop>
+    requires { file_name (file_opening number) words.now ≡ Some name.now }
+    ensures bound { IfOk result (λ file. IfSome file
+        (λ bytes. length bytes.items ≤ LONGEST_LOAD)) }
+    ensures free { ¬ IsErrOf result DeskStop.Busy }
+{
+    load_file(rt, alloc, name)
+}
 
 /// The files that the words name of a command that keeps a sketch: 0 is the sketch itself, and k
 /// the k-th part. A load takes no lock. No contract can say what is in a file.
@@ -73,7 +91,7 @@ impl<'a> SketchFiles for NamedFiles<'a> {
 
     fn load(&mut self, alloc: Global, part: u32) -> Result<Option<Vec<u8>>, PortStop> {
         let answer = match file_opening(part).name(self.words) {
-            Some(name) => load_file(&self.rt, alloc, name),
+            Some(name) => load_named(&self.rt, alloc, self.words, part, name),
             None => Err(DeskStop::Failed),
         };
         match answer {

@@ -1,21 +1,22 @@
 //! The commands that keep a sketch, over the files that their words name.
 
-ghost use Rattle.std.specs.Prelude.{◌≡◌, ◌⊎◌, IfSome};
-ghost use Rattle.sip_advice.specs.Exit.{code_of};
+ghost use Rattle.std.specs.Prelude.{◌≡◌, IfSome, IsSome};
+ghost use Rattle.sip.specs.Endings.{PageEnds, RefusalEnds, SketchCame, SketchEnds};
+ghost use Rattle.sip.specs.Endings.{SketchWordsEnd};
+ghost use Rattle.sip_advice.specs.Pages.{AsksText};
 ghost use Rattle.sip_keeping.specs.Endings.{code_of_sketch};
-ghost use Rattle.sip_keeping.specs.SketchClause.{Does, Told as AnyTold};
-ghost use Rattle.sip_keeping.specs.Words.{Spells};
-ghost use Rattle.sip_sketch.specs.declared.status.SketchStatus.{SketchStatus as AnyStatus};
-ghost use Rattle.sip_verifier.specs.declared.status.Status.{Status as AnyOtherStatus};
+ghost use Rattle.sip_keeping.specs.Words.{IsRefusedAt, Spells};
+ghost use Rattle.sip_sketch.specs.declared.status.SketchStatus.TheVariants as statuses;
 
+use crate::desks::{desk, put_away};
 use crate::named_files::NamedFiles;
 use crate::{Stream, ended, seed_look, source, stream};
 use sip_advice::{Ending, Noted, SeedLook, finish, page_of, write_page};
 use sip_keeping::{
-    SketchCommand, SketchLook, SketchVerb, advise_sketch, advise_words, caution_sketch,
-    file_opening, finish_sketch, obey_sketch, read_sketch_words, sketch_ports,
+    SketchCommand, SketchDone, SketchLook, SketchVerb, advise_sketch, advise_words, caution_sketch,
+    file_opening, finish_sketch, read_sketch_words, sketch_ports, sketch_to_end,
 };
-use sip_ports::{FileDesk, FileLink, FileSource, StderrSink, StdoutSink};
+use sip_ports::{FileLink, FileSource, StderrSink, StdoutSink};
 use sip_sketch::SketchStatus;
 use sip_stream::Form;
 use sip_verifier::Status;
@@ -23,9 +24,6 @@ use sip_words::{Command, Usage, Words};
 use std::fs::{self, Files};
 use std::io;
 use std::os::unix::fs::PermissionsExt;
-
-/// A desk over the sketch. Nothing is said to another side.
-type SketchDesk = FileDesk<FileLink>;
 
 // The form of the stream that a command reads.
 fn form_of(command: &SketchCommand) -> Form {
@@ -69,23 +67,9 @@ fn seed(
     source(rt, words, plan.second, noted)
 }
 
-/// The desk of the sketch that the words name; `None` where memory is refused.
-#[inline(never)]
-fn desk(rt: &HostRuntime, words: &Words) -> Option<Box<SketchDesk>> {
-    let path = file_opening(0).name(words)?.to_string(rt.alloc()).ok()?;
-    let desk = FileDesk::new(*rt, FileLink::new(None, None), path);
-    Box::new(rt.alloc(), desk).ok()
-}
-
-/// Drops a desk. What a box has is moved to the stack before it is dropped, so this is a call of
-/// its own too.
-#[inline(never)]
-pub(crate) fn put_away<D: Drop>(desk: Box<D>) {
-    drop(desk);
-}
-
-/// Opens the files that the words name, and does the command that they spell. A file that does not
-/// open is a port whose calls fail. `None` where memory is refused to a port.
+/// Opens the files that the words name, does the command that they spell, and writes the line of
+/// its status. A file that does not open is a port whose calls fail. Nothing is said to another
+/// side. `None` where memory is refused to a port.
 #[inline(never)]
 fn obey_named(
     rt: &HostRuntime,
@@ -93,17 +77,15 @@ fn obey_named(
     command: &SketchCommand,
     noted: &mut Noted,
     tells: bool,
-) -> Option<SketchStatus>
+) -> Option<SketchDone>
     requires { Spells command.now words.now }
-    // Its status is one of the command's own.
-    ensures { IfSome result (λ status.
-        (before : AnyTold) × (now : AnyTold) × Does command.now before now status) }
+    ensures { IfSome result (λ done. SketchCame command.now done.status done.ending) }
 {
     let mut first = added(rt, words, command, noted, tells)?;
     let mut second = seed(rt, words, command, noted)?;
-    let mut desk = desk(rt, words)?;
+    let mut desk = desk(rt, words, FileLink::new(None, None))?;
     let mut files = NamedFiles::new(*rt, words);
-    let status = obey_sketch(
+    let done = sketch_to_end(
         rt.alloc(),
         command,
         &mut *first,
@@ -111,9 +93,10 @@ fn obey_named(
         &mut *desk,
         &mut files,
         &mut StdoutSink::new(io::writer(rt)),
+        &mut StderrSink::new(rt.stderr()),
     );
     put_away(desk);
-    Some(status)
+    Some(done)
 }
 
 /// How many files of sketches a command has that are read.
@@ -158,49 +141,54 @@ pub(crate) fn left_behind(rt: &HostRuntime, words: &Words) -> Option<bool> {
     Some(fs::symlink_metadata(rt, beside.as_str()).is_ok())
 }
 
-/// Writes what went wrong and what can be done about it. It is a call of its own: the lines are not
-/// on the stack while a command is done.
+/// How a command ends to which memory was refused before it began.
+#[inline(never)]
+fn unbegun(rt: &HostRuntime) -> SketchDone
+    ensures { result.ending.code ≡ code_of_sketch statuses.OutOfMemory }
+{
+    let status = SketchStatus::OutOfMemory;
+    let ending = finish_sketch(&status, &mut StderrSink::new(rt.stderr()));
+    SketchDone { status, ending }
+}
+
+/// Writes what can be done about how a command ended, behind the line of that. It is a call of its
+/// own: the lines are not on the stack while a command is done.
 #[inline(never)]
 fn explained(
     rt: &HostRuntime,
     words: &Words,
     noted: &Noted,
-    status: &SketchStatus,
-    look: SketchLook,
+    done: &SketchDone,
+    is_shared: bool,
 ) -> Ending
-    ensures { result.code ≡ code_of_sketch status.now }
+    ensures { result ≡ done.now.ending }
 {
     let mut errors = StderrSink::new(rt.stderr());
-    let ending = finish_sketch(status, &mut errors);
-    let ending = advise_sketch(ending, words, noted, status, &mut errors);
-    let ending = caution_sketch(ending, look, &mut errors);
+    // Another run that has the sketch may be about to store it.
+    let is_left = done.status != SketchStatus::Busy && left_behind(rt, words).unwrap_or(false);
+    let ending = advise_sketch(done.ending, words, noted, &done.status, &mut errors);
+    let ending = caution_sketch(ending, SketchLook { is_shared, is_left }, &mut errors);
     ending.warn(noted, &mut errors)
 }
 
 /// Does the command that the words spell, and writes what went wrong and what can be done about it.
 fn obey_spelled(rt: &HostRuntime, words: &Words, command: &SketchCommand, tells: bool) -> Ending
     requires { Spells command.now words.now }
-    ensures { (status : AnyStatus) × (result.code ≡ code_of_sketch status) }
+    ensures { SketchEnds command.now result }
 {
     let mut noted = Noted::default();
     let is_shared = are_shared(rt, words, command);
-    let status = obey_named(rt, words, command, &mut noted, tells).unwrap_or(
-        SketchStatus::OutOfMemory,
-    );
-    // Another run that has the sketch may be about to store it.
-    let is_left = status != SketchStatus::Busy && left_behind(rt, words).unwrap_or(false);
-    explained(
-        rt,
-        words,
-        &noted,
-        &status,
-        SketchLook { is_shared, is_left },
-    )
+    match obey_named(rt, words, command, &mut noted, tells) {
+        Some(done) => explained(rt, words, &noted, &done, is_shared),
+        None => explained(rt, words, &noted, &unbegun(rt), is_shared),
+    }
 }
 
 /// The page's part about `seats`, where the words ask for it and nothing has the name of its file.
 #[inline(never)]
-fn page_behind(rt: &HostRuntime, words: &Words, command: &SketchCommand) -> Option<&'static str> {
+fn page_behind(rt: &HostRuntime, words: &Words, command: &SketchCommand) -> Option<&'static str>
+    ensures { IsSome result → AsksText words.now }
+{
     let SketchCommand::Seats = command else {
         return None;
     };
@@ -212,44 +200,45 @@ fn page_behind(rt: &HostRuntime, words: &Words, command: &SketchCommand) -> Opti
     }
 }
 
-/// Writes a part of the page.
+/// Writes a text of the page that the words ask for.
 #[inline(never)]
 pub(crate) fn paged(rt: &HostRuntime, words: &Words, text: &str) -> Ending
-    ensures { (status : AnyOtherStatus) × (result.code ≡ code_of status) }
+    requires { AsksText words.now }
+    ensures { PageEnds words.now result }
 {
     let status = write_page(text, &mut StdoutSink::new(io::writer(rt)));
     ended(rt, words, &Noted::default(), &status)
 }
 
-/// Writes what may stand at the word that was refused.
+/// Writes what may stand at the word that was refused; or a text that the words ask for.
 #[inline(never)]
-fn refused(rt: &HostRuntime, verb: SketchVerb, usage: Usage) -> Ending
-    ensures { result.code ≡ code_of (Status.Usage usage.word) }
+fn refused(rt: &HostRuntime, words: &Words, verb: SketchVerb, usage: Usage) -> Ending
+    requires { IsRefusedAt words.now usage.word }
+    ensures { RefusalEnds IsRefusedAt words.now result }
 {
+    if let Some(text) = page_of(words) {
+        return paged(rt, words, text);
+    }
     let mut errors = StderrSink::new(rt.stderr());
     let ending = finish(&Status::Usage { word: usage.word }, &mut errors);
     advise_words(ending, verb, usage, &mut errors)
 }
 
 /// Does what words say whose first is this verb, and writes what went wrong and what can be done
-/// about it. The code is that of a status.
+/// about it.
 pub(crate) fn sketch_ending(
     rt: &HostRuntime,
     words: &Words,
     verb: SketchVerb,
     tells: bool,
 ) -> Ending
-    ensures { ((status : AnyStatus) × (result.code ≡ code_of_sketch status))
-        ⊎ ((status : AnyOtherStatus) × (result.code ≡ code_of status)) }
+    ensures { SketchWordsEnd words.now result }
 {
     match read_sketch_words(words) {
         Ok(command) => match page_behind(rt, words, &command) {
             Some(text) => paged(rt, words, text),
             None => obey_spelled(rt, words, &command, tells),
         },
-        Err(usage) => match page_of(words) {
-            Some(text) => paged(rt, words, text),
-            None => refused(rt, verb, usage),
-        },
+        Err(usage) => refused(rt, words, verb, usage),
     }
 }

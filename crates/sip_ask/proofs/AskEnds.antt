@@ -136,8 +136,8 @@ module _ (asked : List Question) (start : Option (List ℕ)) (old new blank full
           opens (IsBadHeld asked start old new blank full) (recall ++ ins bytes) (bytes, refl, h.hears.fault, h.hears.of_bytes, h.hears.other)
           (GoesOn-trans near h.mid new recall (ins bytes) h.sent h.hears.talk) unwritten
       opened-asks (statuses.OutOfStep held kept) (h, same, other) unwritten =
-          opens (IsOutOfStep asked start old new blank full held kept) (recall ++ held_heard version held) (refl, same, other)
-          (GoesOn-trans near h.mid new recall (held_heard version held) h.sent h.hears) unwritten
+          opens (IsOutOfStep asked start old new blank full held kept) (recall ++ held_heard version held) (refl, h.hears.1, same, other)
+          (GoesOn-trans near h.mid new recall (held_heard version held) h.sent h.hears.0) unwritten
       opened-asks statuses.PeerFault came unwritten = inl (elim came [
         | inl short ↦ cut-opens short unwritten
         | inr h ↦ front-opens h.mid h.sent h.hears unwritten
@@ -174,7 +174,7 @@ module _ (asked : List Question) (start : Option (List ℕ)) (old new blank full
           mid = mid;
           opened =
               GoesOn-trans old near mid [] (recall ++ held_heard version (held_by s.tally)) load
-              (GoesOn-trans near h.mid mid recall (held_heard version (held_by s.tally)) h.sent h.hears);
+              (GoesOn-trans near h.mid mid recall (held_heard version (held_by s.tally)) h.sent h.hears.0);
           stores = stores;
           asks = asks;
         }

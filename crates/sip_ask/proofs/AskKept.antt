@@ -76,7 +76,7 @@ block-whole s is q None takes = record { size = length-replicate s.depth 0; belo
 block-whole s is q (Some place) takes =
     seat-whole s is place (record { kind = kinds.Entries; is_used = false; block = []; first = 0; second = 0 }) takes.0.inside
 
-blocks-whole : (s : SketchValues) → IsSketch s → (asked : List Question) (places : List (Option ℕ)) → AllZip (Takes s) asked places
+pub blocks-whole : (s : SketchValues) → IsSketch s → (asked : List Question) (places : List (Option ℕ)) → AllZip (Takes s) asked places
     → All (IsWhole s.depth) (map (block_for s) places)
 blocks-whole s is [] [] takes = All-nil (IsWhole s.depth)
 blocks-whole s is [] (place ∷ places) takes = absurd takes
@@ -85,7 +85,7 @@ blocks-whole s is (q ∷ asked) (place ∷ places) takes =
     All-cons (IsWhole s.depth) (block_for s place) (map (block_for s) places) (block-whole s is q place takes.0) (blocks-whole s is asked places takes.1)
 
 -- the challenges of all of them are cut into these blocks
-cut-blocks : (depth : ℕ) → 1 ≤ depth → (f : Option ℕ → List ℕ) (places : List (Option ℕ)) → All (IsWhole depth) (map f places) → cut depth (flat_map f places) ≡ map f places
+pub cut-blocks : (depth : ℕ) → 1 ≤ depth → (f : Option ℕ → List ℕ) (places : List (Option ℕ)) → All (IsWhole depth) (map f places) → cut depth (flat_map f places) ≡ map f places
 cut-blocks depth some f [] all = cut-nil depth (omega (arith, some))
 cut-blocks depth some f (place ∷ places) all =
     cut-cons depth (f place) (flat_map f places) (omega (arith, some)) (All-head (IsWhole depth) (f place) (map f places) all).size

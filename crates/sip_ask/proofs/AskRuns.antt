@@ -33,13 +33,13 @@ use Rattle.sip_ask.proofs.Saying.{take-behind}
 -- ---- turns
 
 -- such turns came behind a talk
-record TurnsCame (version : Version) (s : SketchValues) (talk : List TalkEvent) (new : Option (List TalkEvent)) : Type 0 where
-  turns : List Turn
-  behind : List TalkEvent
-  count : ℕ
-  are : AreTurns s turns
-  farewell : IsFarewell version behind
-  goes : GoesOn (Some talk) new (take count (flat_map turn_events turns ++ behind))
+pub record TurnsCame (version : Version) (s : SketchValues) (talk : List TalkEvent) (new : Option (List TalkEvent)) : Type 0 where
+  pub turns : List Turn
+  pub behind : List TalkEvent
+  pub count : ℕ
+  pub are : AreTurns s turns
+  pub farewell : IsFarewell version behind
+  pub goes : GoesOn (Some talk) new (take count (flat_map turn_events turns ++ behind))
 
 no-farewell : (version : Version) → IsFarewell version []
 no-farewell version = record { link = tt; sent = (spelling version messages.Bye, refl) }
@@ -56,7 +56,7 @@ goes-behind talk first more new count goes =
 abbrev turn_at : ℕ → SketchValues → List TalkEvent → Turn
 turn_at place s said = record { place = place; file = spelled_file (mark place s); said = said }
 
-turns-came : (version : Version) (s : SketchValues) (places : List (Option ℕ)) (talk : List TalkEvent) (new : Option (List TalkEvent)) → AreFree s places
+pub turns-came : (version : Version) (s : SketchValues) (places : List (Option ℕ)) (talk : List TalkEvent) (new : Option (List TalkEvent)) → AreFree s places
     → StoresFirst version s places (Some talk) new → TurnsCame version s talk new
 turns-came version s [] talk new free (said, farewell, goes) = record {
   turns = [];
@@ -131,13 +131,13 @@ module _ (start : Option (List ℕ)) (talk : List TalkEvent) (new : Option (List
   IsARun = (r : Run) × IsRun start talk r × GoesOn (Some talk) new (events_came r)
 
   -- nothing was
-  idle-run : GoesOn (Some talk) new [] → IsARun
+  pub idle-run : GoesOn (Some talk) new [] → IsARun
   idle-run same =
       let held = holds_now start talk in
       (record { loaded = held; deed = stores []; count = 0 }, (holds_now-among start talk, All-nil (Follows held)), same)
 
   module _ (s : SketchValues) (is : IsSketch s) (loads : Loads start (Some talk) (Some (spelled_file s))) where
-    held-whole : Contains (may_hold start talk) (Some (spelled_file s))
+    pub held-whole : Contains (may_hold start talk) (Some (spelled_file s))
     held-whole = whole-loaded (may_hold start talk) (spelled_file s) loads.0 (file-short s is) loads.1 loads.2
 
     module _ (version : Version) where
@@ -220,7 +220,7 @@ module _ (asked : List Question) (start : Option (List ℕ)) (talk : List TalkEv
   ask-run (statuses.NoSeat query) (s, was, refused, (same, unwritten)) = idle-run start talk new same
   ask-run (statuses.TooWide query) (s, was, refused, (same, unwritten)) = idle-run start talk new same
   ask-run (statuses.TooHigh query) (s, was, refused, (same, unwritten)) = idle-run start talk new same
-  ask-run (statuses.OutOfStep held kept) (s, places, (is, loads), chosen, events, (same, own, other), goes, unwritten) =
+  ask-run (statuses.OutOfStep held kept) (s, places, (is, loads), chosen, events, (same, fit, own, other), goes, unwritten) =
       let version = version_for s.depth asked in
       opened-run start talk new s is loads version events (subst (IsOpening version s) (sym same) (heard-opening start talk new s is loads version (spelling version (messages.Held held)))) goes
   ask-run statuses.BadFrame (s, places, (is, loads), chosen, events, (bytes, same, fault, of_bytes, bad), goes, unwritten) =

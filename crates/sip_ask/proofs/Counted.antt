@@ -18,6 +18,7 @@ use Rattle.sip_verifier.specs.Kinds.{Holds, Kind, KindRow, built, missing, kind_
 use Rattle.sip_verifier.proofs.CountedQuestions.{few_wrong, question_counts}
 use Rattle.sip_lookup.proofs.WrittenLooks.{few_looks, look_counts}
 use Rattle.sip_moments.proofs.WrittenMoments.{few_moments, moment_counts}
+use Rattle.sip_questions.specs.Counting.{CountsOf}
 use Rattle.sip_questions.specs.Honest.{answer}
 use Rattle.sip_questions.specs.Questions.{AcceptsOf, Answered, Posed, to_lookup, to_moment, to_query}
 use Rattle.sip_questions.specs.declared.question.Question.{Question}
@@ -75,6 +76,24 @@ module _ (version : Version) (depth : ℕ) (stream : List Update) where
   question-counts t (questions.Lookup lookup) (to_moment written) strategy is accepts wrong talk = absurd accepts
   question-counts t (questions.Moment moment) (to_query written) strategy is accepts wrong talk = absurd accepts
   question-counts t (questions.Moment moment) (to_lookup written) strategy is accepts wrong talk = absurd accepts
+
+  -- where that is promised of a line
+  pub question-found : (t : Posed) (q : Question) (written : Answered) (strategy : Strategy) → IsCounted depth (asked_of q)
+      → CountsOf version depth stream t q written → written ≢ answer depth stream q → replies strategy t.block ≡ map Some t.replies
+      → takes_wrong (counted_by depth (asked_of q) q).accepts (counted_by depth (asked_of q) q).is_right strategy t.block ≡ true
+  question-found t (questions.Query query) (to_query written) strategy is counts wrong talk =
+      row-counts (kind_row version depth stream query) t.block t.replies written (answers.answer depth stream query) strategy
+      counts (query-counts version depth stream query is.fitting is.unsigned) talk (λ same. wrong (ap to_query same))
+  question-found t (questions.Lookup lookup) (to_lookup written) strategy is counts wrong talk =
+      counts.counts strategy written talk refl (λ same. wrong (ap to_lookup same))
+  question-found t (questions.Moment moment) (to_moment written) strategy is counts wrong talk =
+      (counts (moment-counts depth stream moment is.fitting is.low)).counts strategy written talk refl (λ same. wrong (ap to_moment same))
+  question-found t (questions.Query query) (to_lookup written) strategy is counts wrong talk = absurd counts
+  question-found t (questions.Query query) (to_moment written) strategy is counts wrong talk = absurd counts
+  question-found t (questions.Lookup lookup) (to_query written) strategy is counts wrong talk = absurd counts
+  question-found t (questions.Lookup lookup) (to_moment written) strategy is counts wrong talk = absurd counts
+  question-found t (questions.Moment moment) (to_query written) strategy is counts wrong talk = absurd counts
+  question-found t (questions.Moment moment) (to_lookup written) strategy is counts wrong talk = absurd counts
 
 -- ---- plans
 

@@ -28,7 +28,7 @@ module _ (depth : ℕ) (plan : SeatPlan) (a : Asked) (block : List ℕ) (taken :
       (sym led.0) (wrong (plan.strategy earlier later) led.1)
 
   -- at its place among the others
-  any-fooled : (place : ℕ) (plans : List SeatPlan) (seats : List SeatValues) (seat : SeatValues) (before earlier : List ℕ)
+  pub any-fooled : (place : ℕ) (plans : List SeatPlan) (seats : List SeatValues) (seat : SeatValues) (before earlier : List ℕ)
       → All (λ (s : SeatValues). length s.block ≡ depth) seats → place < length seats → place < length plans
       → get_or plans place plan ≡ plan → get_or seats place seat ≡ seat → block ≡ seat.block
       → before ≡ earlier ++ challenges_in (take place seats)

@@ -38,6 +38,12 @@ pub recall_fits : (version : Version) (count : ℕ) → count < 2 ^ 64 → IsTru
 unfolding fits has_room all_hold
 recall_fits version count most = grind (arith, nat_tests)
 
+-- what the other end holds has one too
+pub held_fits : (version : Version) (h : Held) → h.records < 2 ^ 64 → h.first < 2 ^ 64 → h.second < 2 ^ 64 → h.fingerprint < 2 ^ 64
+    → IsTrue (fits version (messages.Held h))
+unfolding fits has_room all_hold
+held_fits version h records first second fingerprint = grind (arith, nat_tests)
+
 -- which faults of the frame end so
 pub of_peer : (fault : WireFault) → of_fault fault ≡ statuses.PeerFault → fault ≡ faults.PeerFault
 of_peer faults.PeerFault is = refl
@@ -92,8 +98,10 @@ module _ (version : Version) (old new : Option (List TalkEvent)) (before now : �
   -- it came whole
   pub heard : (r : Result Message WireFault) (m : Message) (held : Held) → Did r → r ≡ Ok m → m ≡ messages.Held held → HearsHeld version old new (Ok held)
   heard r m held did came is =
-      let whole : Did (Ok m) = subst Did came did in
-      subst (GoesOn old new) (append-nil (ins got) ∙ ap ins (whole.answer.spelled ∙ ap (spelling version) is)) whole.heard
+      let whole : Did (Ok m) = subst Did came did in (
+        subst (GoesOn old new) (append-nil (ins got) ∙ ap ins (whole.answer.spelled ∙ ap (spelling version) is)) whole.heard,
+        subst (λ (x : Message). IsTrue (fits version x)) is whole.answer.has_spelling,
+      )
 
   -- a frame that came whole says what the other end holds
   pub says_held : (r : Result Message WireFault) (m : Message) → Did r → r ≡ Ok m → (held : Held) × (m ≡ messages.Held held)

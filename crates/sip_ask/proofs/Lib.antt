@@ -9,6 +9,10 @@ mod Counted
 mod FileSizes
 mod Fooled
 mod HeldHeard
+mod HonestAnswers
+mod HonestAsks
+mod HonestFile
+mod HonestOpening
 mod LinkTalks
 mod Marks
 mod Narrow
@@ -18,6 +22,8 @@ mod Saying
 mod SeatSteps
 mod Seats
 mod Served
+mod SketchCounted
+mod SketchRuns
 mod StepsTaken
 mod Stops
 mod StreamBytes

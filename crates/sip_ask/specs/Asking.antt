@@ -1,6 +1,6 @@
 -- What a call did that asks questions of the sketch of a desk.
 use Rattle.std.specs.Prelude.{◌≡◌, ◌≢◌, ◌⊎◌, ℕ, suc, ◌<◌, List, [], ◌∷◌, ◌++◌, length, take}
-use Rattle.std.specs.Prelude.{Some, None, Result, Ok, Err}
+use Rattle.std.specs.Prelude.{Some, None, Result, Ok, Err, IsTrue}
 use Rattle.std.specs.declared.option.Option.{Option}
 use Rattle.sip_ports.specs.Desk.{IsOfLink, Loads, steps}
 use Rattle.sip_ports.specs.Ports.{GoesOn, ins, outs}
@@ -10,8 +10,10 @@ use Rattle.sip_vector.specs.Answers.{pairs}
 use Rattle.sip_vector.specs.declared.update.Update.{Update}
 use Rattle.sip_wire.specs.Faults.{IsOfBytes}
 use Rattle.sip_wire.specs.Reading.{read_frame}
+use Rattle.sip_wire.specs.Spelling.{fits}
 use Rattle.sip_wire.specs.declared.kind.Place.TheVariants as wire_places
 use Rattle.sip_wire.specs.declared.message.Held.{Held}
+use Rattle.sip_wire.specs.declared.message.Message.TheVariants as messages
 use Rattle.sip_wire.specs.declared.message.WireFault.{WireFault}
 use Rattle.sip_wire.specs.declared.message.WireFault.TheVariants as faults
 use Rattle.sip_wire.specs.declared.version.Version.{Version}
@@ -189,6 +191,7 @@ module _ (asked : List Question) (start : Option (List ℕ))
   abbrev pub IsOutOfStep : Held → Held → Version → SketchValues → List TalkEvent → Type 0
   IsOutOfStep held kept version s events =
       (events ≡ recall_sent version s.depth s.tally.count ++ held_heard version held)
+      × IsTrue (fits version (messages.Held held))
       × (kept ≡ held_by s.tally) × (held ≢ kept)
 
   -- The other end holds what the sketch is of, and then all questions were asked in order, each

@@ -1,10 +1,12 @@
 pub mod Asking
 pub mod Causes
 pub mod Choosing
+pub mod Completeness
 pub mod Counting
 pub mod Examples
 pub mod Marking
 pub mod Promises
 pub mod Runs
+pub mod SketchCounts
 pub mod Turns
 pub mod inside

@@ -75,12 +75,12 @@ module _ (asked : List Question) (s : SketchValues) (places : List (Option ℕ))
     pub talk : x.talk ≡ stream_sent (version_for s.depth asked) s.depth stream ++ of_link behind
     pub written : x.report ≡ report
 
--- Of every stream that the loaded sketch stands for, where the talk and the report are told: the
--- call keeps the five promises of questions, each at the block of its seat.
-abbrev pub AskClauses : List Question → SketchValues → List (Option ℕ) → Option (List TalkEvent)
-    → Option (List TalkEvent) → Option (List TalkEvent) → Option (List TalkEvent) → Counts → Counts
-    → AskStatus → Type 0
-AskClauses asked s places old new blank full before now status =
+-- Of every stream that the loaded sketch stands for, where the talk and the report are told: this
+-- holds of each exchange of the run that would have been.
+abbrev pub AsIf : List Question → SketchValues → List (Option ℕ) → Option (List TalkEvent)
+    → Option (List TalkEvent) → Option (List TalkEvent) → Option (List TalkEvent) → AskStatus
+    → (List Update → Form → Exchange → Status → Type 0) → Type 0
+AsIf asked s places old new blank full status holds =
     (stream : List Update) → Stands stream s
     → (talk behind wrote : List TalkEvent) (report : List ℕ) → old ≡ Some talk → blank ≡ Some wrote
     → GoesOn old new ((recall_sent (version_for s.depth asked) s.depth s.tally.count
@@ -88,4 +88,12 @@ AskClauses asked s places old new blank full before now status =
     → GoesOn blank full (outs report)
     → (run_end : Status) → run_status status ≡ Some run_end
     → (form : Form) (x : Exchange) → IsAsIf asked s places stream form behind report x
-    → QuestionClauses (run_of asked s places stream form) x before now run_end
+    → holds stream form x run_end
+
+-- the call keeps the five promises of questions, each at the block of its seat
+abbrev pub AskClauses : List Question → SketchValues → List (Option ℕ) → Option (List TalkEvent)
+    → Option (List TalkEvent) → Option (List TalkEvent) → Option (List TalkEvent) → Counts → Counts
+    → AskStatus → Type 0
+AskClauses asked s places old new blank full before now status =
+    AsIf asked s places old new blank full status (λ stream form x run_end.
+    QuestionClauses (run_of asked s places stream form) x before now run_end)

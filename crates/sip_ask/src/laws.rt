@@ -15,14 +15,21 @@ ghost use Rattle.sip_vector.specs.Streams.{IsLegal};
 ghost use Rattle.sip_vector.specs.declared.update.Update.{Update};
 ghost use Rattle.sip_stream.specs.Records.{records};
 ghost use Rattle.sip_stream.specs.Spellings.{all_spelled};
+ghost use Rattle.sip_stream.specs.declared.form.Form.{Form};
 ghost use Rattle.sip_stream.specs.declared.form.Form.TheVariants.{Wide};
 ghost use Rattle.sip_wire.specs.declared.version.Version.{Version};
 ghost use Rattle.sip_verifier.specs.Snapshots.{Counts};
 ghost use Rattle.sip_questions.specs.Honest.{answer};
 ghost use Rattle.sip_questions.specs.Questions.{AcceptsOf, Answered, Posed};
 ghost use Rattle.sip_questions.specs.declared.question.Question.{Question};
+ghost use Rattle.sip_sketch.specs.Beginnings.{Begins};
+ghost use Rattle.sip_sketch.specs.Merging.{Merges};
 ghost use Rattle.sip_sketch.specs.Sketches.{IsSketch, SeatValues, SketchValues};
 ghost use Rattle.sip_sketch.specs.Standing.{Stands};
+ghost use Rattle.sip_sketch.specs.Watching.{Watches};
+ghost use Rattle.sip_sketch.specs.declared.kind.SeatKind.{SeatKind};
+ghost use Rattle.sip_sketch.specs.declared.parts.Parts.{Parts};
+ghost use Rattle.sip_sketch.specs.declared.status.SketchStatus.{SketchStatus};
 ghost use Rattle.sip_ask.specs.Asking.{Asks, IsInTalk};
 ghost use Rattle.sip_ask.specs.Causes.{HasRisen};
 ghost use Rattle.sip_ask.specs.Choosing.{choice};
@@ -75,6 +82,24 @@ pub fn an_ask_is_a_run()
     ensures { (asked : List Question) (start : Option (List ℕ)) (talk : List TalkEvent)
         (new blank full : Option (List TalkEvent)) (status : AskStatus)
         → Asks asked start (Some talk) new blank full status
+        → (r : Run) × IsRun start talk r × GoesOn (Some talk) new (events_came r) }
+{}
+
+/// So is what a call did that begins a sketch, watches a stream for it or adds up its parts: each
+/// file that it stored is that of a sketch in which no seat is unused that was used in the one that
+/// it loaded.
+pub fn what_keeps_a_sketch_is_a_run()
+    ensures begin { (depth : ℕ) (part : Parts) (kinds : List SeatKind)
+        (left start : Option (List ℕ)) (talk : List TalkEvent) (new : Option (List TalkEvent)) (status : SketchStatus)
+        → Begins depth part kinds left start (Some talk) new status
+        → (r : Run) × IsRun start talk r × GoesOn (Some talk) new (events_came r) }
+    ensures watch { (form : Form) (at every : Option ℕ) (start left rest : Option (List ℕ))
+        (talk : List TalkEvent) (new : Option (List TalkEvent)) (status : SketchStatus)
+        → Watches form at every start left (Some talk) rest new status
+        → (r : Run) × IsRun start talk r × GoesOn (Some talk) new (events_came r) }
+    ensures merge { (files : Option (ℕ → Option (List ℕ))) (count : ℕ) (start : Option (List ℕ))
+        (talk : List TalkEvent) (new : Option (List TalkEvent)) (status : SketchStatus)
+        → Merges files count start (Some talk) new status
         → (r : Run) × IsRun start talk r × GoesOn (Some talk) new (events_came r) }
 {}
 

@@ -17,11 +17,16 @@
 //!   questions of which a byte was sent ([`laws::said_only_where_used`]).
 //! - Over any runs over one file, each of which may be cut off at any event, no seat serves two
 //!   questions ([`laws::no_seat_serves_two_questions`]). A call of [`ask`] is such a run
-//!   ([`laws::an_ask_is_a_run`]).
+//!   ([`laws::an_ask_is_a_run`]), and so is one that begins a sketch, watches a stream for it or
+//!   adds up its parts ([`laws::what_keeps_a_sketch_is_a_run`]).
+//! - [`ask`] accepts what an honest helper sends, with the stream's own answers, unless a port or
+//!   memory fails or another process has the sketch.
 //! - A call keeps the promises of a run of questions over each stream that the loaded sketch stands
 //!   for ([`laws::asks_keep_their_promises`]); each has bytes, so that these are no empty promises
 //!   ([`laws::each_legal_stream_has_bytes`]). Of a sketch that stands for none, as one that was
 //!   made by hand, only the order of what is stored and sent is told.
+//! - [`ask`] carries the count over all seats of the sketch (`CountOnSketches`), of which the laws
+//!   below are the parts.
 //! - Whatever order the seats are used in, and however questions are chosen by what was revealed of
 //!   others, a helper has a wrong answer accepted at few vectors of challenges
 //!   ([`laws::few_vectors_mislead_a_sketch`]), and where it has one the sketch's own challenges are
@@ -36,10 +41,12 @@
 //! | `Marking` | a sketch with used seats, and which contents of the file have a seat used |
 //! | `Turns` | in which order the file and the link are used |
 //! | `Asking` | what an ask did, by its status |
+//! | `Completeness` | what an honest helper sends, and what comes of an ask that hears it |
 //! | `Causes` | with which statuses an ask stops, and which count of faults rose then |
 //! | `Promises` | of which exchange of a run it keeps the promises |
 //! | `Runs` | runs over one file, each cut off somewhere, and that no seat serves two questions |
 //! | `Counting` | what may become of each seat, and which wrong answers are counted |
+//! | `SketchCounts` | that a wrong answer in a line of an ask is counted |
 //! | `Examples` | what the examples work out |
 //!
 //! [`examples`] works out which seats questions take, and the file of a sketch with a used seat.

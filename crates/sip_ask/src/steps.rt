@@ -15,6 +15,8 @@ ghost use Rattle.sip_sketch.specs.Standing.{Stands};
 ghost use Rattle.sip_ask.specs.Asking.{Asks};
 ghost use Rattle.sip_ask.specs.Causes.{HasRisen};
 ghost use Rattle.sip_ask.specs.Choosing.{choice, fits, weight_told};
+ghost use Rattle.sip_ask.specs.Completeness.{AskCompletes};
+ghost use Rattle.sip_ask.specs.SketchCounts.{CountOnSketches};
 ghost use Rattle.sip_ask.specs.Turns.{block_at};
 ghost use Rattle.sip_ask.specs.inside.Seating.{IsTested, Serves};
 ghost use Rattle.sip_ask.specs.inside.Steps.{LoadsSketch, StandsReady, asks_at, status_of};
@@ -227,6 +229,13 @@ pub fn ask<D: Desk, K: Sink>(
         (K.talk report.old) (K.talk report.new) result }
     ensures cause { HasRisen (D.faults desk.old) (D.faults desk.new) (K.faults report.old)
         (K.faults report.new) result }
+    // What an honest helper sends is accepted.
+    ensures completes { AskCompletes questions.now (D.start desk.old) (D.talk desk.old)
+        (D.talk desk.new) (K.talk report.old) (K.talk report.new) (D.faults desk.old)
+        (D.faults desk.new) (K.faults report.old) (K.faults report.new) result }
+    // A helper that lies wins at few challenges of all seats together.
+    ensures counts { CountOnSketches questions.now (D.start desk.old) (D.talk desk.old)
+        (D.talk desk.new) (K.talk report.old) (K.talk report.new) result }
     ensures free { D.is_sure desk.old → result ≢ statuses.Busy }
     ensures desk { Lasts D.faults D.wants D.is_sure desk.old desk.new }
     ensures report { Lasts K.faults K.wants K.is_sure report.old report.new }

@@ -8,4 +8,5 @@ pub mod AskWords
 pub mod AskPlan
 pub mod AskEndings
 pub mod AskHints
+pub mod Finishing
 pub mod inside

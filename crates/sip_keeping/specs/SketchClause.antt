@@ -1,5 +1,5 @@
 -- What a call does with its ports where it does a command that keeps a sketch.
-use Rattle.std.specs.Prelude.{◌≡◌, ℕ, List, Option}
+use Rattle.std.specs.Prelude.{ℕ, List, Option}
 use Rattle.sip_ports.specs.declared.port.TalkEvent.{TalkEvent}
 use Rattle.sip_sketch.specs.Beginnings.{Begins}
 use Rattle.sip_sketch.specs.Merging.{Merges}

@@ -10,7 +10,7 @@
 //!
 //! `ask` is told from them by [`asks_sketch`], and has a [`read_ask_words`], an [`ask_ports`], an
 //! [`obey_ask`] and a [`finish_ask`] of its own: its words ask questions, and its status is a
-//! `sip_ask::AskStatus`.
+//! `sip_ask::AskStatus`. [`sketch_to_end`] and [`ask_to_end`] do a command and write its line.
 //!
 //! # The definitions to read
 //!
@@ -24,6 +24,7 @@
 //! | `AskWords` | which words ask which questions of a sketch, and where they are refused |
 //! | `AskPlan` | what the link is opened on, and that the words name it |
 //! | `AskEndings` | the code and the line of each status of an ask |
+//! | `Finishing` | how the program ends by what a command did |
 //!
 //! `specs/inside/` says how far words were read. No promise rests on a reading of it.
 #![tactic(auto)]
@@ -35,6 +36,7 @@ mod ask_plan;
 mod ask_words;
 mod command;
 mod ending;
+mod finishing;
 mod hint_text;
 mod obeying;
 mod obeying_ask;
@@ -51,6 +53,7 @@ pub use ask_plan::{AskPlan, ask_ports};
 pub use ask_words::{Questions, asks_sketch, read_ask_words};
 pub use command::{SketchCommand, read_sketch_words};
 pub use ending::{finish_sketch, shared_status};
+pub use finishing::{AskDone, SketchDone, ask_to_end, sketch_to_end};
 pub use obeying::obey_sketch;
 pub use obeying_ask::obey_ask;
 pub use seats::MOST_SEATS;

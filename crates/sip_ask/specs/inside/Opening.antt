@@ -1,5 +1,5 @@
 -- What hearing what the other end holds did, and opening a talk.
-use Rattle.std.specs.Prelude.{◌≡◌, ◌≢◌, ◌⊎◌, ℕ, List, ◌∷◌, [], ◌++◌, Result, Ok, Err}
+use Rattle.std.specs.Prelude.{◌≡◌, ◌≢◌, ◌⊎◌, ℕ, List, ◌∷◌, [], ◌++◌, Result, Ok, Err, IsTrue}
 use Rattle.std.specs.declared.option.Option.{Option}
 use Rattle.sip_ports.specs.Ports.{GoesOn, ins}
 use Rattle.sip_ports.specs.declared.port.TalkEvent.{TalkEvent}
@@ -7,8 +7,10 @@ use Rattle.sip_ports.specs.declared.port.TalkEvent.TheVariants.{Ended}
 use Rattle.sip_vector.specs.declared.tally.Tally.{Tally}
 use Rattle.sip_wire.specs.Faults.{IsOfBytes}
 use Rattle.sip_wire.specs.Reading.{read_frame}
+use Rattle.sip_wire.specs.Spelling.{fits}
 use Rattle.sip_wire.specs.declared.kind.Place.TheVariants as places
 use Rattle.sip_wire.specs.declared.message.Held.{Held}
+use Rattle.sip_wire.specs.declared.message.Message.TheVariants as messages
 use Rattle.sip_wire.specs.declared.message.WireFault.{WireFault}
 use Rattle.sip_wire.specs.declared.message.WireFault.TheVariants as faults
 use Rattle.sip_wire.specs.declared.version.Version.{Version}
@@ -41,7 +43,8 @@ pub record HearsOther (version : Version) (old new : Option (List TalkEvent)) : 
 
 abbrev pub HearsHeld : Version → Option (List TalkEvent) → Option (List TalkEvent)
     → Result Held AskStatus → Type 0
-HearsHeld version old new (Ok held) = GoesOn old new (held_heard version held)
+HearsHeld version old new (Ok held) =
+    GoesOn old new (held_heard version held) × IsTrue (fits version (messages.Held held))
 HearsHeld version old new (Err statuses.PeerClosed) = HearsFront version old new (Ended ∷ [])
 HearsHeld version old new (Err statuses.BadFrame) = HearsOther version old new
 HearsHeld version old new (Err statuses.PeerFault) = HearsFront version old new []

@@ -1,5 +1,5 @@
 -- The words ask these questions.
 use Rattle.sip.proofs.asking.obey_named.Goals as goal
 
-pub obey_ask-status-requires : goal.obey_ask-status-requires
-obey_ask-status-requires c = (c.args.words.now, c.requires)
+pub ask_to_end-done-requires : goal.ask_to_end-done-requires
+ask_to_end-done-requires c = (c.args.words.now, c.requires)
