@@ -1,0 +1,11 @@
+pub mod Raised
+pub mod Seated
+pub mod Begun
+pub mod Steps
+pub mod Refused
+pub mod Among
+pub mod Weighed
+pub mod SentOn
+pub mod AtEnd
+pub mod Drawn
+pub mod Fronts

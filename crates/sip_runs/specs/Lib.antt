@@ -1,0 +1,4 @@
+pub mod Measures
+pub mod Plans
+pub mod Seats
+pub mod Runs
