@@ -1,14 +1,14 @@
 mod Among
-mod AskEnds
+pub mod AskEnds
 mod AskKept
 mod AskPromises
 mod AskRuns
-mod Chosen
+pub mod Chosen
 mod Contents
 mod Counted
 mod FileSizes
 mod Fooled
-mod HeldHeard
+pub mod HeldHeard
 mod HonestAnswers
 mod HonestAsks
 mod HonestFile
@@ -19,14 +19,14 @@ mod Narrow
 mod Premises
 mod Refusing
 mod Saying
-mod SeatSteps
+pub mod SeatSteps
 mod Seats
-mod Served
+pub mod Served
 mod SketchCounted
 mod SketchRuns
 mod StepsTaken
-mod Stops
+pub mod Stops
 mod StreamBytes
 mod Tested
-mod TurnsTaken
+pub mod TurnsTaken
 mod Unsigned

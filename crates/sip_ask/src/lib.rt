@@ -62,5 +62,6 @@ mod status;
 mod steps;
 
 pub use choosing::{Places, choose};
+pub use opening::{held_by, recall};
 pub use status::{AskPort, AskStatus};
-pub use steps::ask;
+pub use steps::{ask, version_for};

@@ -15,8 +15,8 @@ use sip_ports::{Link, PortStop, Sink};
 use sip_vector::{Depth, Tally};
 use sip_wire::{Frame, Held, Message, Place, Version, WireFault, decode_within, encode};
 
-// What a sketch has of its stream, as a helper says what it holds.
-fn held_by(tally: &Tally) -> Held
+/// What a sketch has of its stream, as a helper says what it holds.
+pub fn held_by(tally: &Tally) -> Held
     ensures { result ≡ held_by tally.now }
 {
     Held {
@@ -66,8 +66,18 @@ fn send_count<K: Sink>(version: Version, count: u64, sink: &mut K) -> Result<(),
     encode(&Message::Recall { count }, version, sink)
 }
 
-// Sends both.
-fn recall<K: Sink>(version: Version, depth: Depth, count: u64, sink: &mut K) -> Result<(), PortStop>
+/// Sends what a talk begins with: its opening in a version, and how many records the other end is
+/// to hear. Nothing of it depends on a challenge.
+///
+/// # Errors
+///
+/// Those of the sink, which a front of it has then reached that is shorter than it.
+pub fn recall<K: Sink>(
+    version: Version,
+    depth: Depth,
+    count: u64,
+    sink: &mut K,
+) -> Result<(), PortStop>
     requires { depth ≤ deepest version }
     ensures talk { SendsWhole (K.talk sink.old) (K.talk sink.new) result
         (recall_bytes version depth count) }

@@ -59,8 +59,8 @@ fn load<D: Desk>(alloc: Global, desk: &mut D) -> Result<Sketch, AskStatus>
     }
 }
 
-// The version of the talk: the least one in which the questions can be asked at the depth.
-fn version_for(sketch: &Sketch, questions: &[Question]) -> Version
+/// The version of the talk: the least one in which the questions can be asked at the depth.
+pub fn version_for(sketch: &Sketch, questions: &[Question]) -> Version
     requires { length questions.now ≤ most_queries }
     ensures { result ≡ version_for sketch.now.depth questions.now }
 {
