@@ -2,8 +2,7 @@
 
 import os
 
-from harness.children import run
-from harness.parts import Line
+from harness.children import Child, run, wait
 from harness.settings import record_size
 from harness.streams import put, scattered
 
@@ -12,6 +11,10 @@ SEATS = 64
 KINDS = {"entries": f"root{SEATS}", "sums:0": f"point{SEATS}", "heavy:0": f"augroot{SEATS}"}
 
 DEPTH = 32
+
+# A run of such a part gives so many blocks of so many records to each number. In a round it is run so often, so that its time is no moment's, as that
+# of a watch is none.
+BLOCKS, BLOCK, TURNS = 200, 512, 20
 
 # What a record may take of a seat, beside a record of a block and one of its numbers; and what memory may grow by, in KiB.
 MOST_TIME, MOST_GROWN = 1.2, 64
@@ -32,16 +35,22 @@ def measure(programs, settings, work):
         times, blocks = [], []
         for _ in range(settings.rounds):
             times.append(watched.run(kind, most).cpu - watched.run(kind, 0).cpu)
-            line = Line(bench, part, DEPTH, work)
-            blocks.append(line.nanoseconds / line.count)
+            blocks.append(sum(fed(bench, part) for _ in range(TURNS)) / TURNS - fed(bench, "updates"))
         peaks = [watched.run(kind, records, traced=True).peak for records in (few, most)]
-        time, block = min(times) * 1e9 / most / SEATS, min(blocks)
+        time, block = (least * 1e9 / SEATS for least in (min(times) / most, min(blocks) / BLOCKS / BLOCK))
         print(f"{kind:26}{time:12.3f}{block:12.3f}{time / block:12.2f}{peaks[0]:12}{peaks[1]:12}", flush=True)
         if time > MOST_TIME * block:
             above.append(f"watch: a record and seat of {kind} take {time / block:.2f} times those of one block")
         if peaks[1] > peaks[0] + MOST_GROWN:
             above.append(f"watch: {kind} holds {peaks[1] - peaks[0]} KiB more for {most} records")
     return above
+
+
+def fed(bench, part):
+    """The CPU time of a part. `updates` makes five times as many blocks, and gives them to no number."""
+    child = Child([*bench, f"{part}-{DEPTH}"])
+    wait([child])
+    return child.cpu
 
 
 class Watched:
