@@ -1,8 +1,11 @@
-"""Sketches of 64 seats that grow by a stream in a file, beside one block of updates to as many running numbers."""
+"""Sketches of 64 seats that grow by a stream in a file, beside blocks of updates to as many running numbers."""
 
 import os
 
-from harness.children import Child, run, wait
+from harness.children import run
+from harness.counts import count
+from harness.parts import ALL, Line
+from harness.programs import valgrind
 from harness.settings import record_size
 from harness.streams import put, scattered
 
@@ -12,9 +15,10 @@ KINDS = {"entries": f"root{SEATS}", "sums:0": f"point{SEATS}", "heavy:0": f"augr
 
 DEPTH = 32
 
-# A run of such a part gives so many blocks of so many records to each number. In a round it is run so often, so that its time is no moment's, as that
-# of a watch is none.
-BLOCKS, BLOCK, TURNS = 200, 512, 20
+# A turn of a watch, or of blocks, takes as many records as a part of several numbers does that is named once. A round has so many turns of each.
+# They are short, so that other work on the machine leaves some of both alone.
+RECORDS = 200 * 512
+TURNS = 20
 
 # What a record may take of a seat, beside a record of a block and one of its numbers; and what memory may grow by, in KiB.
 MOST_TIME, MOST_GROWN = 1.2, 64
@@ -24,33 +28,59 @@ PIECE = 100_000
 
 
 def measure(programs, settings, work):
-    sip, bench = programs.sip(), programs.bench()
     few, most = min(settings.records), max(settings.records)
-    watched = Watched(sip, work)
-    print(f"\nwatch, {most} records of one side, {SEATS} seats, depth {DEPTH}: ns of CPU a record and seat, and the most memory, in KiB", flush=True)
-    columns = ("watch", "one block", "/block", f"{few}", f"{most}")
-    print(f"{'':26}" + "".join(f"{column:>12}" for column in columns))
+    watched, blocks = Watched(programs.sip(), work), Blocks(programs.bench(), work)
+    print(f"\nwatch, {SEATS} seats, depth {DEPTH}: ns of CPU and instructions a record and seat, then of {most} records, and the most KiB of memory")
+    columns = ("watch", "blocks", "/blocks", "least block", "executed", "blocks", "/blocks", "whole", few, most)
+    print(f"{'':26}" + "".join(f"{column:>12}" for column in columns), flush=True)
     above = []
     for kind, part in KINDS.items():
-        times, blocks = [], []
-        for _ in range(settings.rounds):
-            times.append(watched.run(kind, most).cpu - watched.run(kind, 0).cpu)
-            blocks.append(sum(fed(bench, part) for _ in range(TURNS)) / TURNS - fed(bench, "updates"))
-        peaks = [watched.run(kind, records, traced=True).peak for records in (few, most)]
-        time, block = (least * 1e9 / SEATS for least in (min(times) / most, min(blocks) / BLOCKS / BLOCK))
-        print(f"{kind:26}{time:12.3f}{block:12.3f}{time / block:12.2f}{peaks[0]:12}{peaks[1]:12}", flush=True)
-        if time > MOST_TIME * block:
-            above.append(f"watch: a record and seat of {kind} take {time / block:.2f} times those of one block")
-        if peaks[1] > peaks[0] + MOST_GROWN:
-            above.append(f"watch: {kind} holds {peaks[1] - peaks[0]} KiB more for {most} records")
+        time, other, least = timed(watched, blocks, settings.rounds, kind, part)
+        cells, ratios = [f"{time:.3f}", f"{other:.3f}", f"{time / other:.2f}", f"{least:.3f}"], {"time": time / other}
+        if valgrind():
+            executed, others = watched.count(kind), blocks.count(part)
+            cells += [f"{executed:.1f}", f"{others:.1f}", f"{executed / others:.2f}"]
+            ratios["instructions"] = executed / others
+        else:
+            cells += ["-", "-", "-"]
+        runs = [watched.run(kind, records, traced=True) for records in (few, most)]
+        cells += [f"{1e9 * runs[1].cpu / most / SEATS:.3f}", *(each.peak for each in runs)]
+        print(f"{kind:26}" + "".join(f"{cell:>12}" for cell in cells), flush=True)
+        for what, ratio in ratios.items():
+            if ratio > MOST_TIME:
+                above.append(f"watch: a record and seat of {kind} take {ratio:.2f} times the {what} of blocks to as many numbers")
+        if runs[1].peak > runs[0].peak + MOST_GROWN:
+            above.append(f"watch: {kind} holds {runs[1].peak - runs[0].peak} KiB more for {most} records")
     return above
 
 
-def fed(bench, part):
-    """The CPU time of a part. `updates` makes five times as many blocks, and gives them to no number."""
-    child = Child([*bench, f"{part}-{DEPTH}"])
-    wait([child])
-    return child.cpu
+def timed(watched, blocks, rounds, kind, part):
+    """What a record and seat take in nanoseconds, of a watch and of blocks, and what a record and number of the one block that took least do."""
+    times = [(watched.time(kind), blocks.time(part), blocks.least(part)) for _ in range(rounds * TURNS)]
+    return [min(each) for each in zip(*times)]
+
+
+class Blocks:
+    """Blocks of updates to as many numbers. They are timed as a watch is, by the CPU of the whole program."""
+
+    def __init__(self, program, work):
+        self.program, self.work = program, work
+
+    def per_record(self, part, take):
+        """What a record and number take, without the start of the program and the making of the updates."""
+        none = take(self.program)
+        whole, making = (take([*self.program, f"{name}-{DEPTH}"]) - none for name in (part, "updates"))
+        return (whole / RECORDS - making / ALL["root"]) / SEATS
+
+    def time(self, part):
+        return self.per_record(part, lambda words: 1e9 * run(words).cpu)
+
+    def count(self, part):
+        return self.per_record(part, lambda words: count(words, self.work).instructions)
+
+    def least(self, part):
+        line = Line(self.program, part, DEPTH, self.work)
+        return line.nanoseconds / line.count
 
 
 class Watched:
@@ -58,7 +88,8 @@ class Watched:
 
     def __init__(self, sip, work):
         self.sip, self.work = sip, work
-        with open(self.path("seed"), "wb") as seed:
+        # Only its owner may read it: `begin` has a hint otherwise.
+        with open(os.open(self.path("seed"), os.O_WRONLY | os.O_CREAT | os.O_TRUNC, 0o600), "wb") as seed:
             seed.write(os.urandom(32))
 
     def path(self, name):
@@ -79,10 +110,23 @@ class Watched:
                 raise SystemExit("a stream is not as long as it is to be")
         return path
 
-    def run(self, kind, records, **further):
+    def begun(self, kind, records):
+        """The words of a watch of so many records by a new sketch."""
         sketch = self.path("sketch")
         for name in (sketch, sketch + ".lock"):
             if os.path.exists(name):
                 os.unlink(name)
         run([*self.sip, "begin", sketch, self.path("seed"), DEPTH, "1/1", f"{kind}:{SEATS}"])
-        return run([*self.sip, "watch", sketch, self.stream(records), 0, "-"], **further)
+        return [*self.sip, "watch", sketch, self.stream(records), 0, "-"]
+
+    def run(self, kind, records, **further):
+        return run(self.begun(kind, records), **further)
+
+    def time(self, kind):
+        """The CPU time of a record and seat, without what a watch of no record takes."""
+        return 1e9 * (self.run(kind, RECORDS).cpu - self.run(kind, 0).cpu) / RECORDS / SEATS
+
+    def count(self, kind):
+        """The instructions of a record and seat, likewise."""
+        whole, none = (count(self.begun(kind, each), self.work).instructions for each in (RECORDS, 0))
+        return (whole - none) / RECORDS / SEATS
