@@ -61,7 +61,7 @@ impl<F: Field, const CAP: usize> Point<F, CAP> {
 
     /// The extension after each of these updates, whatever their sides.
     ///
-    /// One `times` for an update and seven challenges, and 127 for seven challenges, whose table of
+    /// One `times` for an update and eight challenges, and 127 for eight challenges, whose table of
     /// products is on the stack for this call. A block of less than 32 updates is `update` for
     /// each.
     #[inline(never)]
@@ -81,7 +81,7 @@ impl<F: Field, const CAP: usize> Point<F, CAP> {
                 self.update(update.item, update.delta);
             }
         } else {
-            let mut tables = [[0; 128]; 7];
+            let mut tables = [[0; 256]; 6];
             let count = fill_tables(&mut tables, &self.seat, Factors::Extension);
             let point = F::of_number(self.value);
             self.value = added_by_tables(point, &tables[..count], updates).number();

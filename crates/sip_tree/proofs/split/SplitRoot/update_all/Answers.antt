@@ -70,7 +70,7 @@ fill_steps-count-requires g c =
       search rules,
       (
         omega (arith, c.requires.depth),
-        All-replicate (All (IsBelow p)) 7 (replicate 128 no_step) (All-replicate (IsBelow p) 128 no_step (some, some)),
+        All-replicate (All (IsBelow p)) 6 (replicate 256 no_step) (All-replicate (IsBelow p) 256 no_step (some, some)),
       ),
     )
 
