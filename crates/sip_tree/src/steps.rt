@@ -1,5 +1,5 @@
 //! What a seat's levels make of a hash, worked out once for many updates.
-ghost use Rattle.std.specs.Prelude.{◌≡◌, ℕ, List, ◌+◌, ◌*◌, ◌/◌, ◌%◌, ◌^◌, ◌<◌, ◌≤◌, All, length};
+ghost use Rattle.std.specs.Prelude.{◌≡◌, ℕ, List, ◌+◌, ◌-◌, ◌*◌, ◌/◌, ◌%◌, ◌^◌, ◌<◌, ◌≤◌, All, length};
 ghost use Rattle.std.specs.Prelude.{take, drop};
 ghost use Rattle.sip_field.specs.Residue.{residue};
 ghost use Rattle.sip_tree.specs.Steps.{HasSteps, AreStepTables, IsBelow, sign};
@@ -66,14 +66,15 @@ pub(crate) fn level_steps<F: Field, const CAP: usize>(
 ///
 /// 518 `times` for a table of eight levels.
 pub(crate) fn fill_steps<F: Field, const CAP: usize>(
-    tables: &mut [[Step; 256]; 6],
+    tables: &mut [[Step; 256]],
     seat: &Seat<F, CAP>,
 ) -> usize
-    requires depth { length seat.now ≤ 48 }
+    requires some { 1 ≤ length tables.old }
+    requires room { length seat.now ≤ 8 * length tables.old }
     requires residues { All (All (IsBelow F.MODULUS)) tables.old }
-    ensures some { 1 ≤ result }
-    ensures count { result ≤ 6 }
-    ensures all { length seat.now ≤ 8 * result }
+    ensures count { result ≤ length tables.old }
+    ensures exact { result ≡ 1 + (length seat.now - 1) / 8 }
+    ensures length { length tables.new ≡ length tables.old }
     ensures below { All (All (IsBelow F.MODULUS)) (take result tables.new) }
     ensures tables { AreStepTables F.MODULUS seat.now (take result tables.new) }
 {
