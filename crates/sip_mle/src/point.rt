@@ -1,6 +1,6 @@
 //! The extension of a vector at the challenges of a seat, as a running number.
-ghost use Rattle.std.specs.Prelude.{◌≡◌, ℕ, ◌+◌, ◌*◌, ◌/◌, ◌%◌, ◌^◌, ◌<◌, ◌≤◌, ℤ, pos, List, ◌++◌, All};
-ghost use Rattle.std.specs.Prelude.{length, min, replicate};
+ghost use Rattle.std.specs.Prelude.{◌≡◌, ℕ, ◌+◌, ◌*◌, ◌/◌, ◌%◌, ◌^◌, ◌<◌, ◌≤◌, ℤ, pos, List, ◌++◌};
+ghost use Rattle.std.specs.Prelude.{All, length, min, replicate};
 ghost use Rattle.std.specs.Option.{ForSome};
 ghost use Rattle.sip_field.specs.Products.{AreTables, zero_factor};
 ghost use Rattle.sip_field.specs.Residue.{residue};
@@ -86,8 +86,8 @@ impl<F: Field, const CAP: usize> Point<F, CAP> {
     }
 
     /// Keeps the tables of the challenges from now on, 2 KiB for eight of them, by which
-    /// [`update_all`](Point::update_all) adds its updates then. The extension stays as it is, also where there
-    /// is no memory.
+    /// [`update_all`](Point::update_all) adds its updates then. The extension stays as it is, also
+    /// where there is no memory.
     ///
     /// 255 `times` for eight challenges.
     pub fn keep_tables(&mut self, alloc: Global) -> Result<(), OutOfMemory>
@@ -102,8 +102,8 @@ impl<F: Field, const CAP: usize> Point<F, CAP> {
     /// The extension after each of these updates, whatever their sides.
     ///
     /// One `times` for an update and eight challenges by tables that are kept. Where none are, they
-    /// are made on the stack for this call, by 255 for eight challenges, and a block of less than 32
-    /// updates is `update` for each.
+    /// are made on the stack for this call, by 255 for eight challenges, and a block of less than
+    /// 32 updates is `update` for each.
     pub fn update_all(&mut self, updates: &[Update])
         requires depth { length self.old.seat ≤ most_depth }
         requires items { All (λ u. u.item < 2 ^ length self.old.seat) updates.now }

@@ -2,6 +2,7 @@
 -- do.
 use Rattle.std.proofs.Common.{◌≡◌, ℕ, zero, suc, ◌+◌, ◌-◌, ◌*◌, ◌/◌, ◌%◌, ◌^◌, ◌<◌, ◌≤◌, ◌==◌, if◌then◌else◌, negsuc, List, [], ◌∷◌, length, get_or, take, drop, refl, sym, ◌∙◌, ap, arith}
 use Rattle.std.proofs.Math.Nat.{zero-mod, mod-eq_of_lt, pow-succ', div-div-eq-div-mul, div-eq_of_lt, mod-add-mod, add-mod-mod, mod-mod, add-mul-mod_self_left}
+use Rattle.std.specs.List.{AllZip}
 use Rattle.std.specs.Prelude.{All}
 use Rattle.std.proofs.lemmas.List.{drop_more, drop-take}
 use Rattle.std.proofs.lemmas.List.Elements.{All-get_or}
@@ -149,3 +150,10 @@ one_step_table p whole seat tables k path u v are later within small inside made
     let entry : hash_weight_from p u (path % 256) (take 8 rs) ≡ v =
     ap (λ h. hash_weight_from p h (path % 256) (take 8 rs)) (sym start) ∙ are k within (path % 256) (low_part 8 path rs inside) u small ∙ sym made in
     rw (eight_more k seat) (ap (λ x. hash_weight_from p x (path / 256) (drop 8 rs)) (sym entry) ∙ sym (split_hash p u path 8 rs) ∙ before)
+
+-- copies of steps are the same steps
+pub equal_copies : (xs ys : List Step) → AllZip (λ x y. y ≡ x) xs ys → ys ≡ xs
+equal_copies [] [] h = refl
+equal_copies [] (y ∷ ys) h = absurd h
+equal_copies (x ∷ xs) [] h = absurd h
+equal_copies (x ∷ xs) (y ∷ ys) h = ap (λ z. z ∷ ys) h.0 ∙ ap (λ zs. x ∷ zs) (equal_copies xs ys h.1)

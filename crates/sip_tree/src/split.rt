@@ -77,7 +77,7 @@ impl<F: Field, const CAP: usize> SplitRoot<F, CAP> {
 
     /// The root after each of these updates, whatever their sides.
     ///
-    /// One `times` for an update and eight challenges, and 261 for eight challenges, whose table is
+    /// One `times` for an update and eight challenges, and 518 for eight challenges, whose table is
     /// on the stack for this call. A block of less than 32 updates is `update` for each.
     #[inline(never)]
     pub fn update_all(&mut self, updates: &[Update])

@@ -1,11 +1,12 @@
 //! What a seat's levels make of a hash, worked out once for many updates.
-ghost use Rattle.std.specs.Prelude.{◌≡◌, ℕ, List, ◌+◌, ◌-◌, ◌*◌, ◌/◌, ◌%◌, ◌^◌, ◌<◌, ◌≤◌, All, length};
-ghost use Rattle.std.specs.Prelude.{take, drop};
+ghost use Rattle.std.specs.Prelude.{◌≡◌, ℕ, List, ◌+◌, ◌-◌, ◌*◌, ◌/◌, ◌%◌, ◌^◌, ◌<◌, ◌≤◌, All};
+ghost use Rattle.std.specs.Prelude.{length, take, drop, IfOk};
 ghost use Rattle.sip_field.specs.Residue.{residue};
 ghost use Rattle.sip_tree.specs.Steps.{HasSteps, AreStepTables, IsBelow, sign};
 ghost use Rattle.sip_vector.specs.Weights.{hash_weight, hash_weight_from};
 
-use sip_field::{Field, Seat};
+use sip_field::{Field, OutOfMemory, Seat};
+use std::alloc::Global;
 
 /// What some levels make of a hash `start + h`: `scale * h + shift`.
 #[derive(Clone, Copy)]
@@ -85,6 +86,22 @@ pub(crate) fn fill_steps<F: Field, const CAP: usize>(
         level_steps(&mut tables[group], seat, 8 * group, 0);
     }
     count
+}
+
+/// These tables in memory of their own, where a root keeps them: 4 KiB for eight levels.
+pub(crate) fn made_steps<F: Field, const CAP: usize>(
+    alloc: Global,
+    seat: &Seat<F, CAP>,
+) -> Result<Vec<[Step; 256]>, OutOfMemory>
+    ensures count { IfOk result (λ tables. length tables.items
+        ≡ 1 + (length seat.now - 1) / 8) }
+    ensures below { IfOk result (λ tables. All (All (IsBelow F.MODULUS)) tables.items) }
+    ensures tables { IfOk result (λ tables. AreStepTables F.MODULUS seat.now tables.items) }
+{
+    let count = 1 + seat.depth().saturating_sub(1) / 8;
+    let mut tables = vec![in alloc; [Step { scale: 0, shift: 0 }; 256]; count]?;
+    fill_steps(&mut tables, seat);
+    Ok(tables)
 }
 
 /// A number with the residue of what all tables but the first make of a hash, along the bits of a

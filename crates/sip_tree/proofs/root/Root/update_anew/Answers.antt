@@ -4,14 +4,13 @@ use Rattle.std.proofs.lemmas.Int.{to_z-of_z}
 use Rattle.std.proofs.lemmas.List.{take_all, length-take-le}
 use Rattle.std.proofs.lemmas.List.Elements.{All-get_or}
 use Rattle.sip_field.specs.Residue.{residue}
-use Rattle.sip_vector.specs.Weights.{node_weight, numbers_after}
+use Rattle.sip_vector.specs.Weights.{node_weight}
 use Rattle.sip_vector.specs.declared.update.Side.TheVariants.{First}
 use Rattle.sip_vector.specs.declared.update.Update.{Update}
 use Rattle.sip_tree.specs.Blocks.{root_after}
-use Rattle.sip_tree.specs.StandsFor.{RootStandsFor}
 use Rattle.sip_field.specs.Products.{zero_factor}
 use Rattle.sip_field.specs.declared.factors.Factors.TheVariants.{Tree}
-use Rattle.sip_tree.proofs.Blocks.{one_more, root_is_products, root_term, root_stands_after}
+use Rattle.sip_tree.proofs.Blocks.{one_more, root_is_products, root_term}
 use Rattle.sip_tree.proofs.root.Root.update_anew.Goals as goal
 
 pub loop-update-init : goal.loop-update-init
