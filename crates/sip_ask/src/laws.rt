@@ -90,7 +90,8 @@ pub fn an_ask_is_a_run()
 /// it loaded.
 pub fn what_keeps_a_sketch_is_a_run()
     ensures begin { (depth : ℕ) (part : Parts) (kinds : List SeatKind)
-        (left start : Option (List ℕ)) (talk : List TalkEvent) (new : Option (List TalkEvent)) (status : SketchStatus)
+        (left start : Option (List ℕ)) (talk : List TalkEvent)
+        (new : Option (List TalkEvent)) (status : SketchStatus)
         → Begins depth part kinds left start (Some talk) new status
         → (r : Run) × IsRun start talk r × GoesOn (Some talk) new (events_came r) }
     ensures watch { (form : Form) (at every : Option ℕ) (start left rest : Option (List ℕ))
