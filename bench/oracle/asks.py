@@ -70,10 +70,11 @@ def run(words, files, may_be_made=lambda name: True, busy=(), given=b""):
         status, line, reason = "Accepted", "", ""
     except Ends as ends:
         status, line, reason = ends.why
-    left = desk.files if port.to is None else {**desk.files, said["to"]: going.sent}
+    # TO is opened when something is first sent.
+    left = {**desk.files, said["to"]: going.sent} if going.sent else desk.files
     return runs.Outcome(
-        status, line, going.report.encode(), None if port.to is None else going.sent, reason,
-        tuple(going.turns), left, tuple(desk.stored),
+        status, line, going.report.encode(), going.sent or None, reason, tuple(going.turns), left,
+        tuple(desk.stored),
     )  # fmt: skip
 
 
@@ -82,6 +83,7 @@ class AskLink(Link):
 
     def __init__(self, said, files, may_be_made):
         super().__init__(said, files, may_be_made)
+        self.from_ = said["from"]
         if said["to"] in [said["sketch"] + end for end in ("", ".lock", ".new")]:
             self.to = None
 
@@ -92,6 +94,7 @@ class Ask:
     def __init__(self, questions, desk, port):
         self.questions, self.desk, self.port = questions, desk, port
         self.sent, self.report, self.turns, self.at = b"", "", [], 0
+        self.replies = None
 
     def ask_all(self):
         self.sketch = sketch_of(self.desk.load(), "sketch")
@@ -143,9 +146,13 @@ class Ask:
 
     def heard(self):
         """The bytes of the other end. Those that the file has are all, and then it ends."""
-        if self.port.replies is None:
+        if self.replies is None:
+            # FROM is opened when something is first to be heard, and the lock is there then.
+            given = self.port.from_
+            self.replies = self.port.replies if given == "-" else self.desk.files.get(given)
+        if self.replies is None:
             raise Ends("PeerFault", "sip: peer fault")
-        return self.port.replies
+        return self.replies
 
     def hear_held(self):
         sketch = self.sketch

@@ -81,7 +81,7 @@ def check_one():
     same("the digest", it.files["k"][120:].hex(), USED_DIGEST)
     before = it.files["k"]
     outcome = ask(it, "ask k a b sub:0:0", "sip: no seat for query 1")
-    same("what is sent then", (outcome.to, it.files["k"]), (b"", before))
+    same("what is sent then", (outcome.to, it.files["k"]), (None, before))
 
 
 def check_growing():
@@ -132,7 +132,7 @@ def check_seats():
     signed = [(0, 2, 5), (0, 2, -1)]
     it = kept(signed, "entries:2 heavy:0:1")
     outcome = ask(it, "ask k a b heavy:0:4", "sip: query 1 on a side with negatives")
-    same("what is said of a signed side", outcome.to, b"")
+    same("what is said of a signed side", outcome.to, None)
     ask(it, "ask k a b share:0:1:2", "sip: query 1 on a side with negatives")
     ask(it, "ask k a b sub:0:3", report="sub:0:3 2:4\n")
     same("the seats", [seat.used for seat in it.sketch().seats], [True, False, False])
