@@ -1,4 +1,4 @@
-// Words of the command that asks a sketch: what they ask, what they open, and which word is refused.
+// Words of the command that asks a sketch: what they ask, what they open, and which is refused.
 
 use sip_command_tests::case::Case;
 use sip_keeping::{ask_ports, asks_sketch, file_opening, read_ask_words, sketch_verb};
