@@ -19,7 +19,7 @@ const STREAM: [u8; 52] = [
 
 const BYE: [u8; 3] = [6, 0, 0];
 
-const fn update(item: u64, delta: i64) -> Update {
+fn update(item: u64, delta: i64) -> Update {
     Update {
         side: Side::First,
         item,
@@ -27,7 +27,23 @@ const fn update(item: u64, delta: i64) -> Update {
     }
 }
 
-const UPDATES: [Update; 3] = [update(0, 3), update(2, 5), update(3, 1)];
+const UPDATES: [Update; 3] = [
+    Update {
+        side: Side::First,
+        item: 0,
+        delta: 3,
+    },
+    Update {
+        side: Side::First,
+        item: 2,
+        delta: 5,
+    },
+    Update {
+        side: Side::First,
+        item: 3,
+        delta: 1,
+    },
+];
 
 // Whether a run over these pieces says the worked bytes, and has the worked root for its question.
 fn is_worked(alloc: Global, pieces: &[&[Update]]) -> Result<[bool; 4], Fail> {
