@@ -1,7 +1,7 @@
 -- A sketch that is asked without a link: what was done so far, and what is wanted.
-use Rattle.std.specs.Prelude.{IsTrue, ◌≡◌, ◌⊎◌, ◌+◌, ◌<◌, ◌≤◌, ℕ, suc, Bool, true, false, ⊤, List, [], ◌∷◌}
+use Rattle.std.specs.Prelude.{◌≡◌, ◌⊎◌, ◌+◌, ◌<◌, ◌≤◌, ℕ, suc, Bool, true, false, ⊤, List, [], ◌∷◌}
 use Rattle.std.specs.Prelude.{◌++◌, length, Option, None, Some, Result, Ok, Err, vec_capacity}
-use Rattle.std.specs.Prelude.{if◌then◌else◌}
+use Rattle.std.specs.Prelude.{IsTrue, if◌then◌else◌}
 use Rattle.sip_ports.specs.Desk.{IsOfLink, steps}
 use Rattle.sip_ports.specs.Ports.{ins}
 use Rattle.sip_ports.specs.declared.port.TalkEvent.{TalkEvent}
