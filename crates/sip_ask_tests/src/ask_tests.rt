@@ -87,7 +87,7 @@ const STORE_FAULT: AskStatus = AskStatus::WriteFault {
 // The questions; the parts of what the other end says; which calls of the desk fail, of which the
 // first loads, two send the opening, two receive what is held, and the sixth stores; the status;
 // the report; and whether the first seat is used then.
-type Row<'a> = (
+pub(crate) type Row<'a> = (
     &'a [Question],
     &'a [&'a [u8]],
     &'a [u64],
@@ -98,7 +98,7 @@ type Row<'a> = (
 
 const HONEST: &[&[u8]] = &[HELD, ENTRIES, SIBLINGS, NO_SIBLINGS];
 
-const ROWS: [Row; 16] = [
+pub(crate) const ROWS: [Row; 16] = [
     (
         &[SUB],
         HONEST,
@@ -192,7 +192,12 @@ const ROWS: [Row; 16] = [
 
 // A desk with the sketch, and another end that says these bytes. Replacing it stops behind so many
 // steps where it fails.
-fn desk(alloc: Global, said: &[&[u8]], fails: &[u64], stops: usize) -> Result<MemoryDesk, Fail> {
+pub(crate) fn desk(
+    alloc: Global,
+    said: &[&[u8]],
+    fails: &[u64],
+    stops: usize,
+) -> Result<MemoryDesk, Fail> {
     let mut replies = Vec::new(alloc);
     for part in said {
         replies.extend_from_slice(part)?;
@@ -202,7 +207,7 @@ fn desk(alloc: Global, said: &[&[u8]], fails: &[u64], stops: usize) -> Result<Me
 }
 
 // Whether the file is the sketch, with its first seat used or not.
-fn is_stored(file: Option<&[u8]>, is_used: bool) -> bool {
+pub(crate) fn is_stored(file: Option<&[u8]>, is_used: bool) -> bool {
     let Some(file) = file else {
         return false;
     };

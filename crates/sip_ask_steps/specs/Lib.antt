@@ -1,0 +1,4 @@
+pub mod Hearing
+pub mod Plans
+pub mod Told
+pub mod Steps
