@@ -5,6 +5,7 @@ use Rattle.sip_vector.specs.declared.update.Entry.{Entry}
 use Rattle.sip_wire.specs.declared.message.Node.{Node}
 use Rattle.sip_wire.specs.declared.message.Reason.{Reason}
 use Rattle.sip_replies.specs.Replies.{Fault}
+use Rattle.sip_heavy.specs.declared.form.LeafForm.TheVariants as forms
 use Rattle.sip_heavy.specs.AcceptsHeavy.{HeavyQuestion, verdict}
 
 abbrev pub node : ℕ → ℕ → ℕ → Node
@@ -16,7 +17,7 @@ leaf i c = node i c c
 
 -- the query for entries of at least t, in two levels
 abbrev pub at_least : ℕ → HeavyQuestion
-at_least t = record { depth = 2; at_least = t; total = 9 }
+at_least t = record { form = forms.Count; depth = 2; at_least = t; total = 9 }
 
 -- the two leaves that an honest helper shows for 4
 abbrev pub pair : List Node

@@ -5,6 +5,7 @@ ghost use Rattle.std.specs.Prelude.{◌||◌, not, true, false, nat_lt, nat_le, 
 ghost use Rattle.std.specs.Prelude.{slice_index, List, [], ◌∷◌, ◌++◌, length, drop, is_err, IfOk};
 ghost use Rattle.std.specs.List.{list_all};
 ghost use Rattle.sip_replies.specs.Rising.{is_above};
+ghost use Rattle.sip_heavy.specs.declared.form.LeafForm.TheVariants as forms;
 ghost use Rattle.sip_heavy.specs.AcceptsHeavy.{HeavyQuestion, are_pairs, end_test, is_empty};
 ghost use Rattle.sip_heavy.specs.AcceptsHeavy.{leaf_node, merged, nodes_above, pair_counts};
 ghost use Rattle.sip_heavy.specs.AcceptsHeavy.{top_test};
@@ -12,6 +13,7 @@ ghost use Rattle.sip_heavy.specs.Checking.{Advances, AnswersAs, Begun, GivenNode
 ghost use Rattle.sip_heavy.specs.Checking.{asked_of, begins_with, folded, keeping, node_test};
 ghost use Rattle.sip_heavy.specs.Checking.{Takes, nothing, passing, passing_all, with_node};
 
+use crate::form::LeafForm;
 use crate::level::{are_heavy, are_pairs, are_within, fold_pairs, move_below, put_heavy};
 use crate::space::HeavySpace;
 use sip_field::Field;
@@ -32,6 +34,7 @@ use std::marker::Model;
 /// `reveal`, each `node`, and `level_end`; at last `finish`. A refusal spends the check.
 #[derive(Drop)]
 pub struct HeavyCheck<F: Field, const CAP: usize> {
+    form: LeafForm,
     at_least: u64,
     // The side's total.
     total: u64,
@@ -82,6 +85,7 @@ impl<F: Field, const CAP: usize> HeavyCheck<F, CAP> {
         requires total { pos at_least ≤ℤ root.now.total }
         requires room { 2 * (nat_abs root.now.total / at_least) ≤ space.nodes }
         ensures taken { let asked : HeavyQuestion = record {
+          form = forms.Count;
           depth = length root.now.seat;
           at_least = at_least;
           total = nat_abs root.now.total;
@@ -103,6 +107,7 @@ impl<F: Field, const CAP: usize> HeavyCheck<F, CAP> {
         requires small { total < 2 ^ 61 }
         requires room { 2 * (total / at_least) ≤ space.nodes }
         ensures taken { let asked : HeavyQuestion = record {
+          form = forms.Count;
           depth = length root.now.seat;
           at_least = at_least;
           total = total;
@@ -120,6 +125,7 @@ impl<F: Field, const CAP: usize> HeavyCheck<F, CAP> {
         level.clear();
         found.clear();
         HeavyCheck {
+            form: LeafForm::Count,
             at_least,
             total,
             most: 2 * (total / at_least) as usize,
@@ -413,11 +419,11 @@ impl<F: Field, const CAP: usize> HeavyCheck<F, CAP> {
 
     // Keeps the heavy leaves, at the end of the lowest level.
     fn keep_heavy(&mut self)
-        ensures { self.new ≡ keeping self.old }
+        ensures { self.new ≡ keeping F.MODULUS self.old }
     {
         if self.level == 0 {
             self.found.clear();
-            put_heavy(&self.nodes, self.at_least, &mut self.found);
+            put_heavy::<F>(&self.nodes, self.form, self.at_least, &mut self.found);
         }
     }
 

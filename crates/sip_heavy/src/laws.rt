@@ -79,17 +79,18 @@ pub fn one_node_is_known_in_the_end()
 /// the heavy leaves, or to the first fault.
 pub fn bytes_come_to_what_nodes_do()
     ensures judged { (asked : HeavyAsked) (challenges : List ℕ) (replies : List (List AnyMessage))
-        → asked.query.depth ≡ length challenges → AreFrames asked.version 0 replies
+        → asked.query.depth ≡ length challenges
+        → AreFrames asked.version asked.query.form 0 replies
         → length replies ≡ length challenges
         → verdict (heavy_protocol asked) challenges (stated_replies asked.version replies)
         ≡ as_answer (heavy.verdict asked.modulus asked.query asked.root challenges
-        (stated_nodes replies)) }
+        (stated_nodes asked.modulus replies)) }
     ensures accepted { (asked : HeavyAsked) (challenges : List ℕ)
         (replies : List (List AnyMessage)) → asked.query.depth ≡ length challenges
-        → reaches asked.query ≡ true → AreFrames asked.version 0 replies
+        → reaches asked.query ≡ true → AreFrames asked.version asked.query.form 0 replies
         → length replies ≡ length challenges
         → accepts (heavy_protocol asked) challenges (stated_replies asked.version replies)
-        ≡ heavy.accepts asked.modulus asked.query asked.root challenges (stated_nodes replies) }
+        ≡ heavy.accepts asked.modulus asked.query asked.root challenges (stated_nodes asked.modulus replies) }
 {}
 
 /// Accepted replies are the bytes of frames of nodes, by level, with the end of a level behind
@@ -106,11 +107,11 @@ pub fn accepted_replies_state_nodes()
 /// once, and the tests of a level come with its end.
 pub fn frames_are_read_one_after_another()
     ensures nodes { (asked : HeavyAsked) (s : HeavyState) (frames : List AnyMessage)
-        (rest : List ℕ) → All (IsFrame asked.version (s.level == 0)) frames
+        (rest : List ℕ) → All (IsFrame asked.version asked.query.form (s.level == 0)) frames
         → read_reply (heavy_rules asked.version asked.modulus asked.query) s
         (flat_map (spelling asked.version) frames ++ rest)
         ≡ then_read asked s rest (with_nodes asked.query s.level s.known s.received
-        (flat_map nodes_of frames)) }
+        (flat_map (nodes_of asked.modulus) frames)) }
     ensures end { (asked : HeavyAsked) (s : HeavyState) (rest : List ℕ)
         → read_reply (heavy_rules asked.version asked.modulus asked.query) s
         (spelling asked.version messages.LevelEnd ++ rest)
