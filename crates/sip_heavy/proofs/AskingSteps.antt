@@ -18,6 +18,7 @@ use Rattle.sip_replies.specs.Replies.{Fault}
 use Rattle.sip_replies.specs.declared.check.More.{More}
 use Rattle.sip_replies.specs.declared.check.More.TheVariants as mores
 use Rattle.sip_replies.proofs.Passing.{same_ok}
+use Rattle.sip_heavy.specs.declared.form.LeafForm.TheVariants as forms
 use Rattle.sip_heavy.specs.AcceptsHeavy.{HeavyQuestion, is_next, end_test, heavy_entries, known_after, leaves_of, merged, most_nodes, nodes_above, with_nodes}
 use Rattle.sip_heavy.specs.Asking.{HeavyStands, phase_of}
 use Rattle.sip_heavy.specs.Checking.{Advances, AnswersAs, Begun, GivenNodes, HasTaken, Kept, Takes, nothing}
@@ -213,7 +214,7 @@ module _ (asked : HeavyAsked) (s : HeavyState) (c new : Kept) (places : List Ent
     -- what was found stays, above the lowest level
     pub found_stays : (c.level == 0) ≡ false → new.found ≡ c.found
     found_stays above = taken_then.1.1.found
-        ∙ ap (heavy_entries asked.query.at_least) (leaves_next stands.given.ended stands.given.received (leaves_of stands.given.ended) c.level stands.taken.level refl ∙ rw above refl)
+        ∙ ap (heavy_entries m61_modulus asked.query.form asked.query.at_least) (leaves_next stands.given.ended stands.given.received (leaves_of stands.given.ended) c.level stands.taken.level refl ∙ rw above refl)
         ∙ sym stands.taken.found
 
     pub end_taken : (shown_in : List Entry) → Advances c new 1 0 → new.spent ≡ false → new.known ≡ nodes_above m61_modulus (slice_index c.challenges c.level) nodes
@@ -245,15 +246,15 @@ module _ (asked : HeavyAsked) (s : HeavyState) (c new : Kept) (places : List Ent
 
 -- ---- a frame, by its kind
 
-pub leaves_step_is : (q : HeavyQuestion) (s : HeavyState) (c : Kept) (v : ArrayVec Leaf) → c.level ≡ s.level → (c.level == 0) ≡ true → heavy_step q s (messages.Leaves v) ≡ nodes_step q s (leaf_nodes v.items)
-leaves_step_is q s c v level at = let here : (s.level == 0) ≡ true = ap (λ j. j == 0) (sym level) ∙ at in rw here refl
+pub leaves_step_is : (p : ℕ) (q : HeavyQuestion) (s : HeavyState) (c : Kept) (v : ArrayVec Leaf) → c.level ≡ s.level → (c.level == 0) ≡ true → q.form ≡ forms.Count → heavy_step p q s (messages.Leaves v) ≡ nodes_step q s (leaf_nodes v.items)
+leaves_step_is p q s c v level at form = let here : (s.level == 0) ≡ true = ap (λ j. j == 0) (sym level) ∙ at in rw (form, here) refl
 
-pub nodes_step_is : (q : HeavyQuestion) (s : HeavyState) (c : Kept) (v : ArrayVec Node) → c.level ≡ s.level → (c.level == 0) ≡ false → heavy_step q s (messages.Nodes v) ≡ nodes_step q s v.items
-nodes_step_is q s c v level at = let here : (s.level == 0) ≡ false = ap (λ j. j == 0) (sym level) ∙ at in rw here refl
+pub nodes_step_is : (p : ℕ) (q : HeavyQuestion) (s : HeavyState) (c : Kept) (v : ArrayVec Node) → c.level ≡ s.level → (c.level == 0) ≡ false → heavy_step p q s (messages.Nodes v) ≡ nodes_step q s v.items
+nodes_step_is p q s c v level at = let here : (s.level == 0) ≡ false = ap (λ j. j == 0) (sym level) ∙ at in rw here refl
 
 -- a step of a message is that of its frame
-pub of_message : (q : HeavyQuestion) (s : HeavyState) (m n : Message) (Stands : HeavyState → Type 0) (given : Result More Reason) (r : Result (More × HeavyState) Reason) → m ≡ n → heavy_step q s n ≡ r → Steps r Stands given → Steps (heavy_step q s m) Stands given
-of_message q s m n Stands given r same is steps = subst (λ k. Steps (heavy_step q s k) Stands given) (sym same) (subst (λ t. Steps t Stands given) (sym is) steps)
+pub of_message : (p : ℕ) (q : HeavyQuestion) (s : HeavyState) (m n : Message) (Stands : HeavyState → Type 0) (given : Result More Reason) (r : Result (More × HeavyState) Reason) → m ≡ n → heavy_step p q s n ≡ r → Steps r Stands given → Steps (heavy_step q s m) Stands given
+of_message p q s m n Stands given r same is steps = subst (λ k. Steps (heavy_step p q s k) Stands given) (sym same) (subst (λ t. Steps t Stands given) (sym is) steps)
 
 pub length_leaves : (ls : List Leaf) → length (leaf_nodes ls) ≡ length ls
 length_leaves [] = refl

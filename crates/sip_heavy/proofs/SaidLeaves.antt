@@ -35,7 +35,7 @@ Tell p form truth i [] = Unit {0}
 Tell p form truth i (a ∷ numbers) = Tells p form (truth i) a × Tell p form truth (suc i) numbers
 
 -- what is at least t has a count of at least t
-counts_more : (t n : ℕ) (a : ℤ) → int_le (pos t) a ≡ true → a ≤ℤ pos n → leb t n ≡ true
+pub counts_more : (t n : ℕ) (a : ℤ) → int_le (pos t) a ≡ true → a ≤ℤ pos n → leb t n ≡ true
 counts_more t n (pos k) heavy within = le-leb t n (omega (arith, ints, leb-true t k heavy, within))
 counts_more t n (negsuc k) heavy within = absurd cc
 

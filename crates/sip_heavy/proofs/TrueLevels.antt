@@ -124,6 +124,14 @@ counts_positive (c ∷ level) all = (rw all.0.1 (omega (arith, ints)), counts_po
 abbrev pub sum_of : List Counted → ℕ
 sum_of leaves = count_of (int_sum (map (λ c. c.count) leaves))
 
+count_is : (z : ℤ) → pos 0 ≤ℤ z → (n : ℕ) × (z ≡ pos n)
+count_is (pos n) least = (n, refl)
+count_is (negsuc n) least = absurd (omega (arith, ints, least))
+
+pub sum_is : (leaves : List Counted) → AreCounts leaves → (n : ℕ) × (int_sum (map (λ c. c.count) leaves) ≡ pos n)
+unfolding counts_of
+sum_is leaves are = count_is (int_sum (counts_of leaves)) (sum_positive (counts_of leaves) (counts_positive leaves are))
+
 -- of leaves that count numbers
 pub sum_of_counts : (p : ℕ) (numbers : List ℤ) → sum_of (map (leaf p) numbers) ≡ count_of (int_sum numbers)
 unfolding counts_of

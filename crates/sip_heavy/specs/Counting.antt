@@ -21,7 +21,8 @@ use Rattle.sip_heavy.specs.declared.form.LeafForm.TheVariants as forms
 use Rattle.sip_heavy.specs.AcceptsHeavy.{HeavyQuestion, accepts, heavy_entries, leaves_of, value_of}
 use Rattle.sip_heavy.specs.TrueNodes.{is_spot}
 use Rattle.sip_heavy.specs.Honest.{heavy_of}
-use Rattle.sip_heavy.specs.Protocol.{HeavyState, count_of, heavy_asked, heavy_protocol, heavy_rules}
+use Rattle.sip_heavy.specs.Protocol.{HeavyState, above_asked, count_of, heavy_asked}
+use Rattle.sip_heavy.specs.Protocol.{heavy_protocol, heavy_rules}
 
 -- ---- over lists of nodes
 
@@ -70,6 +71,36 @@ LeavesStand p form (c ∷ leaves) [] = ⊥
 LeavesStand p form (c ∷ leaves) (a ∷ numbers) =
     LeafStands p form c a × LeavesStand p form leaves numbers
 
+-- how the replies at these challenges are read as bytes, and what they come to
+abbrev pub protocol_over : Version → ℕ → HeavyQuestion → List Counted → List ℕ
+    → Protocol HeavyState
+protocol_over version p q leaves challenges = heavy_protocol (record {
+  version = version;
+  modulus = p;
+  root = (top_of p leaves challenges).hash;
+  query = q;
+})
+
+abbrev pub accepts_bytes_over : Version → ℕ → HeavyQuestion → List Counted → List ℕ
+    → List (List ℕ) → Bool
+accepts_bytes_over version p q leaves challenges replies =
+    replies_of.accepts (protocol_over version p q leaves challenges) challenges replies
+
+-- the leaves of a state, none where there is a fault
+abbrev pub leaves_in : Result HeavyState Fault → List Node
+leaves_in (Ok s) = s.leaves
+leaves_in (Err _) = []
+
+-- the entries of at least t that reply 0 states; no challenge is needed to read them
+abbrev pub said_over : Version → ℕ → HeavyQuestion → List (List ℕ) → List Entry
+said_over version p q replies =
+    heavy_entries p q.form q.at_least
+    (leaves_in (run (heavy_rules version p q) [] (take 1 replies)))
+
+abbrev pub is_right_over : Version → ℕ → HeavyQuestion → List ℤ → List (List ℕ) → Bool
+is_right_over version p q numbers replies =
+    pointwise is_same_entry (said_over version p q replies) (heavy_of q.at_least numbers)
+
 -- ---- over counts
 
 -- the nodes received at these challenges are accepted, by the augmented root of the numbers
@@ -102,7 +133,7 @@ pub record IsWeighed (p : ℕ) (value weight : ℤ) : Type 0 where
 abbrev pub AreWeighed : ℕ → List ℤ → List ℤ → Type 0
 AreWeighed p values weights = All (λ x. IsWeighed p x.0 x.1) (zip values weights)
 
--- ---- over bytes
+-- ---- counts, over bytes
 
 -- how the replies at these challenges are read, and what they come to
 abbrev pub heavy_over : Version → ℕ → ℕ → ℕ → List ℤ → List ℕ → Protocol HeavyState
@@ -115,22 +146,33 @@ abbrev pub accepts_heavy : Version → ℕ → ℕ → ℕ → List ℤ → List
 accepts_heavy version p depth t numbers challenges replies =
     replies_of.accepts (heavy_over version p depth t numbers challenges) challenges replies
 
--- the leaves of a state, none where there is a fault
-abbrev pub leaves_in : Result HeavyState Fault → List Node
-leaves_in (Ok s) = s.leaves
-leaves_in (Err _) = []
-
--- the heavy leaves that reply 0 states; no challenge is needed to read them
+-- the heavy leaves that reply 0 states
 abbrev pub said : Version → ℕ → ℕ → ℕ → List ℤ → List (List ℕ) → List Entry
-said version p depth t numbers replies =
-    heavy_entries p forms.Count t
-    (leaves_in (run (heavy_rules version p (asked_over depth t numbers)) [] (take 1 replies)))
+said version p depth t numbers replies = said_over version p (asked_over depth t numbers) replies
 
 -- the replies say the numbers of at least t
 abbrev pub is_right : Version → ℕ → ℕ → ℕ → List ℤ → List (List ℕ) → Bool
 is_right version p depth t numbers replies =
     pointwise is_same_entry (said version p depth t numbers replies)
     (heavy_of t numbers)
+
+-- ---- marks, over bytes
+
+abbrev pub above_over : Version → ℕ → ℕ → ℕ → List ℤ → List ℤ → List ℕ → Protocol HeavyState
+above_over version p depth t values weights challenges =
+    heavy_protocol
+    (above_asked version p (splitroot p values weights challenges) (count_of (int_sum weights))
+    depth t)
+
+abbrev pub accepts_above : Version → ℕ → ℕ → ℕ → List ℤ → List ℤ → List ℕ → List (List ℕ)
+    → Bool
+accepts_above version p depth t values weights challenges replies =
+    replies_of.accepts (above_over version p depth t values weights challenges) challenges replies
+
+-- the replies say the values of at least t
+abbrev pub is_right_above : Version → ℕ → ℕ → ℕ → List ℤ → List ℤ → List (List ℕ) → Bool
+is_right_above version p depth t values weights replies =
+    is_right_over version p (asking_for forms.Mark depth t weights) values replies
 
 -- ---- on a call
 

@@ -10,6 +10,7 @@ use Rattle.sip_wire.specs.declared.message.Message.TheVariants as messages
 use Rattle.sip_wire.specs.declared.message.Node.{Node}
 use Rattle.sip_wire.specs.declared.version.Version.{Version}
 use Rattle.sip_wire.specs.Spelling.{fits, spelling}
+use Rattle.sip_wire.specs.Values.{InRange}
 use Rattle.sip_wire.specs.declared.message.Reason.{Reason}
 use Rattle.sip_replies.specs.Replies.{Fault, at_end, read_reply}
 use Rattle.sip_heavy.specs.declared.form.LeafForm.{LeafForm}
@@ -36,7 +37,7 @@ stands_in form is_first _ = false
 -- a frame of nodes, with a spelling, that stands in reply 0 or in the others
 abbrev pub IsFrame : Version → LeafForm → Bool → Message → Type 0
 IsFrame version form is_first m =
-    IsTrue (fits version m) × IsTrue (stands_in form is_first m)
+    IsTrue (fits version m) × IsTrue (stands_in form is_first m) × InRange m
 
 -- ---- replies
 

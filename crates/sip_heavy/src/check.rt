@@ -4,6 +4,7 @@ ghost use Rattle.std.specs.Prelude.{◌≡◌, ℕ, ◌+◌, ◌-◌, ◌*◌, �
 ghost use Rattle.std.specs.Prelude.{◌||◌, not, true, false, nat_lt, nat_le, nat_abs, pos, ◌≤ℤ◌};
 ghost use Rattle.std.specs.Prelude.{slice_index, List, [], ◌∷◌, ◌++◌, length, drop, is_err, IfOk};
 ghost use Rattle.std.specs.List.{list_all};
+ghost use Rattle.sip_field.specs.Residue.{residue};
 ghost use Rattle.sip_replies.specs.Rising.{is_above};
 ghost use Rattle.sip_heavy.specs.declared.form.LeafForm.TheVariants as forms;
 ghost use Rattle.sip_heavy.specs.AcceptsHeavy.{HeavyQuestion, are_pairs, end_test, is_empty};
@@ -11,6 +12,7 @@ ghost use Rattle.sip_heavy.specs.AcceptsHeavy.{leaf_node, merged, nodes_above, p
 ghost use Rattle.sip_heavy.specs.AcceptsHeavy.{top_test};
 ghost use Rattle.sip_heavy.specs.Checking.{Advances, AnswersAs, Begun, GivenNodes, HasTaken, Kept};
 ghost use Rattle.sip_heavy.specs.Checking.{asked_of, begins_with, folded, keeping, node_test};
+ghost use Rattle.sip_heavy.specs.Protocol.{are_counts, leaf_place};
 ghost use Rattle.sip_heavy.specs.Checking.{Takes, nothing, passing, passing_all, with_node};
 
 use crate::form::LeafForm;
@@ -20,7 +22,7 @@ use sip_field::Field;
 use sip_replies::is_above;
 use sip_tree::AugRoot;
 use sip_vector::Entry;
-use sip_wire::{Node, Reason};
+use sip_wire::{Node, Place, Reason};
 use std::marker::Model;
 
 /// The check of the replies to one query for heavy hitters: the entries of at least a threshold.
@@ -163,6 +165,30 @@ impl<F: Field, const CAP: usize> HeavyCheck<F, CAP> {
         taken
     }
 
+    /// Takes a leaf of reply 0 that has a value and a weight: the reasons are those of `leaf`.
+    ///
+    /// No `times`, and constant time.
+    pub fn mark(&mut self, item: u64, value: i64, weight: u64) -> Result<(), Reason>
+        requires unspent { self.old.spent ≡ false }
+        requires lowest { self.old.level ≡ 0 }
+        requires small { weight < F.MODULUS }
+        ensures answers { Takes F.MODULUS self.old (record {
+          index = item;
+          hash = residue F.MODULUS value;
+          count = weight;
+        } ∷ []) self.new result }
+        ensures advances { Advances self.old self.new 0 0 }
+        ensures spent { self.new.spent ≡ is_err result }
+    {
+        let taken = self.take(Node {
+            index: item,
+            hash: F::of_signed(value).number(),
+            count: weight,
+        });
+        self.spent = taken.is_err();
+        taken
+    }
+
     /// Takes a received node of a level above the lowest: `Reason::BadOrder` where its index is not
     /// above the one before, or is outside the level, or known; else `Reason::TooMany` where the
     /// level has no more room; else `Reason::HeavySibling` where its count is at least the
@@ -284,6 +310,36 @@ impl<F: Field, const CAP: usize> HeavyCheck<F, CAP> {
         ensures { result ≡ nat_le self.now.at_least self.now.total }
     {
         self.total >= self.at_least
+    }
+
+    // Where leaves stand.
+    pub(crate) fn leaf_place(&self) -> Place
+        ensures { result ≡ leaf_place self.now.form }
+    {
+        match self.form {
+            LeafForm::Count => Place::Leaves,
+            LeafForm::Mark => Place::Marks,
+        }
+    }
+
+    // Whether counts come next.
+    pub(crate) fn awaits_counts(&self) -> bool
+        ensures { result ≡ (are_counts self.now.form && (self.now.level == 0)) }
+    {
+        match self.form {
+            LeafForm::Count => self.level == 0,
+            LeafForm::Mark => false,
+        }
+    }
+
+    // Whether marks come next.
+    pub(crate) fn awaits_marks(&self) -> bool
+        ensures { result ≡ (not (are_counts self.now.form) && (self.now.level == 0)) }
+    {
+        match self.form {
+            LeafForm::Count => false,
+            LeafForm::Mark => self.level == 0,
+        }
     }
 
     // Whether the nodes that come next are leaves.

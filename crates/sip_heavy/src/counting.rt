@@ -23,7 +23,8 @@ ghost use Rattle.sip_heavy.specs.AcceptsHeavy.{are_pairs, nodes_above, pair_coun
 ghost use Rattle.sip_heavy.specs.TrueNodes.{Spot, are_true, level_above};
 ghost use Rattle.sip_heavy.specs.Counting.{accepts_heavy, accepts_nodes, are_right, heavy_over};
 ghost use Rattle.sip_heavy.specs.Counting.{accepts_marks, are_right_marks, is_right, said};
-ghost use Rattle.sip_heavy.specs.Counting.{AreWeighed, HeavyCountClause};
+ghost use Rattle.sip_heavy.specs.Counting.{accepts_above, is_right_above, AreWeighed};
+ghost use Rattle.sip_heavy.specs.Counting.{HeavyCountClause};
 ghost use Rattle.sip_heavy.specs.Protocol.{count_of};
 ghost use Rattle.sip_heavy.specs.Honest.{heavy_of};
 ghost use Rattle.sip_heavy.specs.CountedExamples.{misplaced, says_first, says_ones};
@@ -68,6 +69,15 @@ pub fn few_challenges_for_wrong_replies()
         → nat_abs (int_sum numbers) < p
         → fooled p d (accepts_heavy version p d t numbers) (is_right version p d t numbers) strategy
         ≤ 3 * d * p ^ (d - 1) }
+{}
+
+/// The same of values with weights, over replies as bytes.
+pub fn few_challenges_for_wrong_mark_replies()
+    ensures { (version : Version) (p d t : ℕ) (values weights : List ℤ) (strategy : Strategy)
+        → IsPrime p → 0 < p → length values ≡ length weights → length weights ≡ 2 ^ d
+        → AreWeighed p values weights → count_of (int_sum weights) < p
+        → fooled p d (accepts_above version p d t values weights)
+        (is_right_above version p d t values weights) strategy ≤ 3 * d * p ^ (d - 1) }
 {}
 
 /// Modulo 2^61 - 1, for a side of every legal stream with no negative entry, no more is asked: its
