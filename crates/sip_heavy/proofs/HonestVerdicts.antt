@@ -110,7 +110,7 @@ module _ (version : Version) (p depth t n : ℕ) (numbers : List ℤ) (can : IsA
   pub all_run : (revealed more : List ℕ) → length revealed ≤ depth → run R (revealed ++ more) (replies revealed) ≡ Ok (arrives p t 0 [] true leaves revealed)
   all_run revealed more short =
       ap (run R (revealed ++ more)) (replies_are revealed)
-      ∙ runs version p q can.found.counted.modulus can.elements can.found.counted.light can.shallow can.found.some can.found.reached revealed more 0 [] true leaves (omega (arith, short)) begin_stands
+      ∙ runs version p q can.found.counted.modulus can.elements can.found.counted.light can.shallow can.found.some can.found.reached refl revealed more 0 [] true leaves (omega (arith, short)) begin_stands
 
   -- there is one for each challenge, and one challenge more gives one reply more
   pub replies_count : (challenges : List ℕ) → length (replies challenges) ≡ length challenges

@@ -105,7 +105,6 @@ heavy_tests asked s messages.End = wrong_kind {X = More × HeavyState}
 heavy_tests asked s (messages.AskMoment side degree) = wrong_kind {X = More × HeavyState}
 heavy_tests asked s (messages.Held held) = wrong_kind {X = More × HeavyState}
 heavy_tests asked s (messages.Recall count) = wrong_kind {X = More × HeavyState}
-heavy_tests asked s (messages.Marks v) = wrong_kind {X = More × HeavyState}
 heavy_tests asked s (messages.Power v) = wrong_kind {X = More × HeavyState}
 
 -- ---- the tests behind the last reply
