@@ -252,9 +252,9 @@ leaves_step_is p q s c v form level at =
     let here : (are_counts q.form && (s.level == 0)) ≡ true = ap (λ f. are_counts f && (s.level == 0)) (sym form) ∙ ap (λ j. are_counts c.form && (j == 0)) (sym level) ∙ at in
     rw here refl
 
-pub marks_step_is : (p : ℕ) (q : HeavyQuestion) (s : HeavyState) (c : Kept) (v : ArrayVec Mark) → c.form ≡ q.form → c.level ≡ s.level → (not (are_counts c.form) && (c.level == 0)) ≡ true
-    → heavy_step p q s (messages.Marks v) ≡ nodes_step q s (mark_nodes p v.items)
-marks_step_is p q s c v form level at =
+pub marks_step_is : (p : ℕ) (q : HeavyQuestion) (s : HeavyState) (c : Kept) (v : ArrayVec Mark) → p ≡ m61_modulus → c.form ≡ q.form → c.level ≡ s.level → (not (are_counts c.form) && (c.level == 0)) ≡ true
+    → heavy_step p q s (messages.Marks v) ≡ nodes_step q s (mark_nodes m61_modulus v.items)
+marks_step_is p q s c v field form level at =
     let here : (not (are_counts q.form) && (s.level == 0)) ≡ true = ap (λ f. not (are_counts f) && (s.level == 0)) (sym form) ∙ ap (λ j. not (are_counts c.form) && (j == 0)) (sym level) ∙ at in
     rw here refl
 

@@ -13,6 +13,7 @@ ghost use Rattle.sip_vector.specs.declared.update.Side.{Side as AnySide};
 ghost use Rattle.sip_vector.specs.declared.update.Update.{Update as AnyUpdate};
 ghost use Rattle.sip_vector.specs.Answers.{pairs};
 ghost use Rattle.sip_vector.specs.Streams.{int_sum, vector, IsLegal, IsStrict};
+ghost use Rattle.sip_vector.specs.Splits.{weights};
 ghost use Rattle.sip_vector.specs.Trees.{augroot};
 ghost use Rattle.sip_counts.specs.Counts.{count_below, counted};
 ghost use Rattle.sip_counts.specs.Strategies.{Strategy, fooled, takes_wrong};
@@ -89,6 +90,17 @@ pub fn few_challenges_for_wrong_answers()
         → fooled m61_modulus d (accepts_heavy version m61_modulus d t (vector d stream side))
         (is_right version m61_modulus d t (vector d stream side)) strategy
         ≤ 3 * d * m61_modulus ^ (d - 1) }
+{}
+
+/// Modulo 2^61 - 1, for the large entries of a side of every legal stream nothing else is asked:
+/// entries may be below 0, and the weights hide none.
+pub fn few_challenges_for_wrong_large_entries()
+    ensures { (version : Version) (d t : ℕ) (stream : List AnyUpdate) (side : AnySide)
+        (strategy : Strategy) → IsLegal d stream
+        → fooled m61_modulus d
+        (accepts_above version m61_modulus d t (vector d stream side) (weights d stream side))
+        (is_right_above version m61_modulus d t (vector d stream side) (weights d stream side))
+        strategy ≤ 3 * d * m61_modulus ^ (d - 1) }
 {}
 
 /// Where entries are written only for replies that are accepted and state them, the promise on

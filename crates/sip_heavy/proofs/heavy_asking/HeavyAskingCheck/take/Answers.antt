@@ -39,7 +39,7 @@ returns-in_err-give_marks-in-Marks-clause-took c asked s stands =
     let check : Kept = c.self.inside.check in
     let held = stands_inside asked s check c.args.self.now c.args.places.now stands c.requires.phase.same c.self.view_is in
     let takes = subst (λ (ls : List Mark). Takes m61_modulus check (mark_nodes m61_modulus ls) c.give_marks.new.check c.give_marks.result) c.deref-in-Marks.ensures.0 c.give_marks.ensures.answers in
-    of_message asked.modulus asked.query s c.args.message.now (messages.Marks c.in-Marks.rows) _ _ _ c.in-Marks.is (marks_step_is asked.modulus asked.query s check c.in-Marks.rows (ap (λ (a : HeavyQuestion). a.form) held.0.taken.asked) held.0.level (sym c.if-not-awaits_marks.ensures))
+    of_message asked.modulus asked.query s c.args.message.now (messages.Marks c.in-Marks.rows) _ _ _ c.in-Marks.is (marks_step_is asked.modulus asked.query s check c.in-Marks.rows held.0.field (ap (λ (a : HeavyQuestion). a.form) held.0.taken.asked) held.0.level (sym c.if-not-awaits_marks.ensures))
     (nodes_refused asked s check c.give_marks.new.check c.args.places.now held.0 held.1 (mark_nodes m61_modulus c.in-Marks.rows.items) c.give_marks.result takes _ c.in_err-give_marks-in-Marks.field-0.0 _ c.in_err-give_marks-in-Marks.was c.from_residual.ensures.1)
 
 pub give_nodes-requires-clause-small : goal.give_nodes-requires-clause-small
@@ -83,7 +83,7 @@ returns-in_ok-give_marks-in-Marks-clause-took c asked s stands =
     let check : Kept = c.self.inside.check in
     let held = stands_inside asked s check c.args.self.now c.args.places.now stands c.requires.phase.same c.self.view_is in
     let takes = subst (λ (ls : List Mark). Takes m61_modulus check (mark_nodes m61_modulus ls) c.give_marks.new.check c.give_marks.result) c.deref-in-Marks.ensures.0 c.give_marks.ensures.answers in
-    of_message asked.modulus asked.query s c.args.message.now (messages.Marks c.in-Marks.rows) _ _ _ c.in-Marks.is (marks_step_is asked.modulus asked.query s check c.in-Marks.rows (ap (λ (a : HeavyQuestion). a.form) held.0.taken.asked) held.0.level (sym c.if-not-awaits_marks.ensures))
+    of_message asked.modulus asked.query s c.args.message.now (messages.Marks c.in-Marks.rows) _ _ _ c.in-Marks.is (marks_step_is asked.modulus asked.query s check c.in-Marks.rows held.0.field (ap (λ (a : HeavyQuestion). a.form) held.0.taken.asked) held.0.level (sym c.if-not-awaits_marks.ensures))
     (nodes_taken asked s check c.give_marks.new.check c.args.places.now held.0 held.1 (mark_nodes m61_modulus c.in-Marks.rows.items) c.give_marks.result takes _ c.in_ok-give_marks-in-Marks.was c.give_marks.ensures.advances (rw c.in_ok-give_marks-in-Marks.was at c.give_marks.ensures.spent))
 
 pub returns-in_ok-give_leaves-in-Leaves-clause-smaller : goal.returns-in_ok-give_leaves-in-Leaves-clause-smaller
