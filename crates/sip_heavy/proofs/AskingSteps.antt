@@ -256,7 +256,7 @@ pub marks_step_is : (p : ℕ) (q : HeavyQuestion) (s : HeavyState) (c : Kept) (v
     → heavy_step p q s (messages.Marks v) ≡ nodes_step q s (mark_nodes m61_modulus v.items)
 marks_step_is p q s c v field form level at =
     let here : (not (are_counts q.form) && (s.level == 0)) ≡ true = ap (λ f. not (are_counts f) && (s.level == 0)) (sym form) ∙ ap (λ j. not (are_counts c.form) && (j == 0)) (sym level) ∙ at in
-    rw here refl
+    rw here (ap (λ k. nodes_step q s (mark_nodes k v.items)) field)
 
 pub nodes_step_is : (p : ℕ) (q : HeavyQuestion) (s : HeavyState) (c : Kept) (v : ArrayVec Node) → c.level ≡ s.level → (c.level == 0) ≡ false → heavy_step p q s (messages.Nodes v) ≡ nodes_step q s v.items
 nodes_step_is p q s c v level at = let here : (s.level == 0) ≡ false = ap (λ j. j == 0) (sym level) ∙ at in rw here refl
