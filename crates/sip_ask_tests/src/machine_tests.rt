@@ -51,8 +51,45 @@ fn hand(machine: &mut SketchAsking, log: &mut Vec<TalkEvent>, piece: &[u8]) -> R
     Ok(taken)
 }
 
-// All that it does over a desk that hears nothing, where the other end says this in pieces of a
-// size; and how it ended.
+// Does what is wanted, over a desk that hears nothing, where the other end says this in pieces of a
+// size.
+fn act(
+    machine: &mut SketchAsking,
+    desk: &mut MemoryDesk,
+    log: &mut Vec<TalkEvent>,
+    said: &[u8],
+    heard: &mut usize,
+    size: usize,
+) -> Result<(), Fail>
+    requires { HasBegun machine.old }
+    ensures { HasBegun machine.new }
+{
+    match machine.wants() {
+        Wants::Due => {
+            machine.due(desk)?;
+            Ok(())
+        }
+        Wants::Waits => {
+            let taken = hand(machine, log, piece_of(said, *heard, size))?;
+            *heard = heard.saturating_add(taken);
+            Ok(())
+        }
+        Wants::Stores => {
+            if desk.replace(machine.to_store()).is_err() {
+                return Ok(());
+            }
+            machine.stored();
+            Ok(())
+        }
+        Wants::Answers => {
+            machine.next();
+            Ok(())
+        }
+        Wants::Ended(_) => Ok(()),
+    }
+}
+
+// All that it does, and how it ended.
 fn drive(
     alloc: Global,
     machine: &mut SketchAsking,
@@ -64,22 +101,9 @@ fn drive(
 {
     let mut log = Vec::new(alloc);
     let mut heard = 0usize;
-    for _step in 0..2000 {
+    for _step in 0..200 {
         let seen = desk.talk().len();
-        match machine.wants() {
-            Wants::Due => machine.due(desk)?,
-            Wants::Waits => {
-                let taken = hand(machine, &mut log, piece_of(said, heard, size))?;
-                heard = heard.saturating_add(taken);
-            }
-            Wants::Stores => {
-                if desk.replace(machine.to_store()).is_ok() {
-                    machine.stored();
-                }
-            }
-            Wants::Answers => machine.next(),
-            Wants::Ended(_) => break,
-        }
+        act(machine, desk, &mut log, said, &mut heard, size)?;
         note(&mut log, desk.talk(), seen)?;
     }
     Ok((log, machine.wants()))

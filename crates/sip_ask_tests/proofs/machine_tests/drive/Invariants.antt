@@ -2,5 +2,5 @@
 use Rattle.sip_ask_steps.specs.Steps.{HasBegun}
 use Rattle.sip_ask_tests.proofs.machine_tests.drive.Given as goal
 
-abbrev pub invariant-loop-_step : goal.invariant-loop-_step
-invariant-loop-_step l = HasBegun l.machine
+abbrev pub invariant-loop-step : goal.invariant-loop-step
+invariant-loop-step l = HasBegun l.machine
