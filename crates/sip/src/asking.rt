@@ -13,6 +13,7 @@ use crate::ends::{from_file, regular, to_file};
 use crate::late::{LateReader, LateWriter, look_again, look_again_to};
 use crate::named_files::load_named;
 use crate::sketching::{is_shared, left_behind, paged};
+use crate::told_ask::ToldAsk;
 use either::{Either, Left, Right};
 use sip_advice::{Ending, Noted, Unopened, finish, page_of};
 use sip_ask::AskStatus;
@@ -27,8 +28,9 @@ use sip_verifier::Status;
 use sip_words::{Opening, Usage, Words, unless};
 use std::io::{self, Stdin};
 
-/// The link to the helper, of which each end is opened when it is first used.
-type HelperLink<'a> = TwoWayLink<Either<LateReader<'a>, Stdin>, LateWriter<'a>>;
+/// The link to the helper, of which each end is opened when it is first used, and which tells how
+/// far an ask is.
+type HelperLink<'a> = ToldAsk<TwoWayLink<Either<LateReader<'a>, Stdin>, LateWriter<'a>>>;
 
 /// What TO is opened on: nothing where that is the sketch, one of the two files beside it, or what
 /// brings the helper's bytes.
@@ -71,7 +73,8 @@ fn link<'a>(rt: &HostRuntime, words: &'a Words, plan: &AskPlan, tells: bool) -> 
             None => None,
         },
     };
-    TwoWayLink::new(from, LateWriter::of(rt, words, plan.to, to_line))
+    let ends = TwoWayLink::new(from, LateWriter::of(rt, words, plan.to, to_line));
+    ToldAsk::new(rt, ends, tells)
 }
 
 /// Asks what the words ask, over the files that they name, and writes the line of the status. A

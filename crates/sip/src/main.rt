@@ -10,6 +10,7 @@ mod named_files;
 mod sketching;
 mod start;
 mod store;
+mod told_ask;
 
 ghost use Rattle.std.specs.Prelude.{◌≡◌, ◌⊎◌, ◌↔◌, ℕ, List, IsTrue, IfSome, IsSome, None};
 ghost use Rattle.sip.specs.Endings.{ProgramEnds};
