@@ -2,7 +2,7 @@
 
 import os
 
-from harness.children import run
+from harness.children import Child, run, wait
 from harness.hitters import AT_LEAST
 from harness.lookups import Lookups
 from harness.moments import DEGREES, Moments, ones
@@ -20,6 +20,9 @@ MADE = f"made:7:{RECORDS}"
 OTHERS = ("f2:0", "inner", f"heavy:0:{AT_LEAST}")
 
 LOOKUPS = ("index:1", "pred:99", "succ:100")
+
+# What is asked of a sketch: of each kind of seat, and by each kind of question but a moment, which this stream's weight may be too high for.
+ASKED = ("sub:0:999", *LOOKUPS, "range:0:0:999", "f2:1", "inner", f"heavy:0:{AT_LEAST}")
 
 # The codes of a run that is accepted, and of one that is rejected.
 ACCEPTED, REJECTED = 0, 1
@@ -42,6 +45,8 @@ def measure(programs, settings, work):
         for label, words in keeping(depth, work):
             child = run([*programs["sip"], *words], traced=True, quiet=True)
             table.line(f"{label} {depth}", {"sip": child.stack}, ENDS)
+        for count, stack in asking(programs["sip"], depth, work):
+            table.line(f"ask of {count} {depth}", {"sip": stack}, ENDS)
     for words in (["--version"], ["--help"], ["verify", "--help"]):
         table.line(" ".join(words), {"sip": run([*programs["sip"], *words], traced=True).stack})
     return table.above
@@ -147,3 +152,16 @@ def keeping(depth, work):
     yield "begin 2/2", ["begin", two, seed, depth, "2/2", *seats]
     yield "watch a part", ["watch", one, word, "+", "-"]
     yield "merge", ["merge", both, one, two]
+
+
+def asking(program, depth, work):
+    """The stack of asks of one question and of several, of the sketch of the whole stream, whose store is that stream."""
+    there, back = (os.path.join(work, f"{name}{depth}") for name in ("there", "back"))
+    for fifo in (there, back):
+        os.mkfifo(fifo)
+    word, whole = stream_word(os.path.join(work, "stream"), depth), os.path.join(work, f"whole{depth}")
+    for questions in (ASKED[:1], ASKED):
+        store = Child([*program, "serve", word, there, back], quiet=True)
+        asker = Child([*program, "ask", whole, back, there, *questions], traced=True, quiet=True)
+        wait([store, asker])
+        yield len(questions), asker.stack
