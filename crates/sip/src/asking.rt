@@ -22,7 +22,7 @@ use sip_keeping::{
     AskDone, AskPlan, Questions, SeatsLeft, SketchLook, advise_ask, advise_ask_words, ask_ports,
     ask_to_end, caution_sketch, file_opening, finish_ask, read_ask_words, tell_left,
 };
-use sip_ports::{StderrSink, StdoutSink, TwoWayLink};
+use sip_ports::{FileDesk, StderrSink, StdoutSink, TwoWayLink};
 use sip_sketch::Sketch;
 use sip_verifier::Status;
 use sip_words::{Opening, Usage, Words, unless};
@@ -77,6 +77,20 @@ fn link<'a>(rt: &HostRuntime, words: &'a Words, plan: &AskPlan, tells: bool) -> 
     ToldAsk::new(rt, ends, tells)
 }
 
+/// The desk of the sketch that the words name, over that link; `None` where memory is refused. It
+/// is a call of its own: a link has a buffer, which is on the stack for as long.
+#[inline(never)]
+fn linked_desk<'a>(
+    rt: &HostRuntime,
+    words: &'a Words,
+    plan: &AskPlan,
+    tells: bool,
+) -> Option<Box<FileDesk<HelperLink<'a>>>>
+    requires { OpensOrSpares words.now plan.now }
+{
+    desk(rt, words, link(rt, words, plan, tells))
+}
+
 /// Asks what the words ask, over the files that they name, and writes the line of the status. A
 /// file that does not open is a port whose calls fail. `None` where memory is refused to a port.
 #[inline(never)]
@@ -96,7 +110,7 @@ fn obey_named(
         ..asks
     };
     noted.to = Unopened::taken(asks.to, plan.to);
-    let mut desk = desk(rt, words, link(rt, words, &plan, tells))?;
+    let mut desk = linked_desk(rt, words, &plan, tells)?;
     let mut report = StdoutSink::new(io::writer(rt));
     let mut errors = StderrSink::new(rt.stderr());
     let done = ask_to_end(rt.alloc(), asked, &mut *desk, &mut report, &mut errors);

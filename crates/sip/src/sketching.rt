@@ -16,7 +16,7 @@ use sip_keeping::{
     SketchCommand, SketchDone, SketchLook, SketchVerb, advise_sketch, advise_words, caution_sketch,
     file_opening, finish_sketch, read_sketch_words, sketch_ports, sketch_to_end,
 };
-use sip_ports::{FileLink, FileSource, StderrSink, StdoutSink};
+use sip_ports::{FileDesk, FileLink, FileSource, StderrSink, StdoutSink};
 use sip_sketch::SketchStatus;
 use sip_stream::Form;
 use sip_verifier::Status;
@@ -67,6 +67,13 @@ fn seed(
     source(rt, words, plan.second, noted)
 }
 
+/// The desk of the sketch that the words name, over a link to nobody; `None` where memory is
+/// refused. It is a call of its own: a link has a buffer, which is on the stack for as long.
+#[inline(never)]
+fn lone_desk(rt: &HostRuntime, words: &Words) -> Option<Box<FileDesk<FileLink>>> {
+    desk(rt, words, FileLink::new(None, None))
+}
+
 /// Opens the files that the words name, does the command that they spell, and writes the line of
 /// its status. A file that does not open is a port whose calls fail. Nothing is said to another
 /// side. `None` where memory is refused to a port.
@@ -83,7 +90,7 @@ fn obey_named(
 {
     let mut first = added(rt, words, command, noted, tells)?;
     let mut second = seed(rt, words, command, noted)?;
-    let mut desk = desk(rt, words, FileLink::new(None, None))?;
+    let mut desk = lone_desk(rt, words)?;
     let mut files = NamedFiles::new(*rt, words);
     let done = sketch_to_end(
         rt.alloc(),
