@@ -5,7 +5,7 @@ ghost use Rattle.sip_vector.specs.Limits.{most_depth};
 use crate::blocks::{BLOCK, BLOCKS, next_block};
 use crate::line::{Line, Part, lesser};
 use crate::stream::{Generator, seat_of};
-use sip_field::{M61, Seat};
+use sip_field::{M61, OutOfMemory, Seat};
 use sip_mle::Point;
 use sip_tree::{AugRoot, Root};
 use sip_vector::{CAP, Depth, Update};
@@ -21,15 +21,15 @@ const MOST_TOTAL: u64 = 1 << 29;
 
 /// A running number of a stream.
 pub(crate) trait Number {
-    ghost use Rattle.std.specs.Prelude.{◌≡◌, ◌^◌, ◌<◌, ◌≤◌, ℕ, nat_abs, length, All};
+    ghost use Rattle.std.specs.Prelude.{◌≡◌, ◌^◌, ◌<◌, ◌≤◌, ℕ, nat_abs, length, All, IfOk};
     ghost use Rattle.sip_vector.specs.Limits.{most_depth};
 
     /// How many challenges it has.
     ghost deep: { Self → ℕ };
 
-    /// That of a stream without updates.
-    fn begun(seat: Seat<M61, CAP>) -> Self
-        ensures { deep result ≡ length seat };
+    /// That of a stream without updates, which keeps its tables.
+    fn begun(alloc: Global, seat: Seat<M61, CAP>) -> Result<Self, OutOfMemory>
+        ensures { IfOk result (λ number. deep number ≡ length seat) };
 
     /// Takes a block of small updates.
     fn raise(&mut self, block: &[Update])
@@ -46,8 +46,10 @@ pub(crate) trait Number {
 impl Number for Root<M61, CAP> {
     ghost deep = { λ root. length root.seat };
 
-    fn begun(seat: Seat<M61, CAP>) -> Self {
-        Root::new(seat)
+    fn begun(alloc: Global, seat: Seat<M61, CAP>) -> Result<Self, OutOfMemory> {
+        let mut number = Root::new(seat);
+        number.keep_tables(alloc)?;
+        Ok(number)
     }
 
     fn raise(&mut self, block: &[Update]) {
@@ -62,8 +64,10 @@ impl Number for Root<M61, CAP> {
 impl Number for Point<M61, CAP> {
     ghost deep = { λ point. length point.seat };
 
-    fn begun(seat: Seat<M61, CAP>) -> Self {
-        Point::new(seat)
+    fn begun(alloc: Global, seat: Seat<M61, CAP>) -> Result<Self, OutOfMemory> {
+        let mut number = Point::new(seat);
+        number.keep_tables(alloc)?;
+        Ok(number)
     }
 
     fn raise(&mut self, block: &[Update]) {
@@ -79,8 +83,10 @@ impl Number for Point<M61, CAP> {
 impl Number for AugRoot<M61, CAP> {
     ghost deep = { λ root. length root.seat };
 
-    fn begun(seat: Seat<M61, CAP>) -> Self {
-        AugRoot::new(seat)
+    fn begun(alloc: Global, seat: Seat<M61, CAP>) -> Result<Self, OutOfMemory> {
+        let mut number = AugRoot::new(seat);
+        number.keep_tables(alloc)?;
+        Ok(number)
     }
 
     fn raise(&mut self, block: &[Update]) {
@@ -117,7 +123,10 @@ pub(crate) fn fed<N: Number + Drop>(
 ) -> io::Result<Line> {
     let mut numbers: Vec<N> = Vec::new(alloc);
     for number in 0..count {
-        numbers.push(N::begun(seat_of(number, depth)))?;
+        match N::begun(alloc, seat_of(number, depth)) {
+            Ok(begun) => numbers.push(begun)?,
+            Err(_) => return Err(io::ErrorKind::OutOfMemory.into()),
+        }
     }
     let mut stream = Generator::of_stream();
     let mut time = Duration::MAX;

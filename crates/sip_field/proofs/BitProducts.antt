@@ -33,9 +33,9 @@ high_part (suc n) i (r ∷ rs) within =
     rw (more, sym (div-div-eq-div-mul i 2 (2 ^ n))) (high_part n (i / 2) rs half)
 
 -- the challenges behind one group more
-pub seven_more : (k : ℕ) (seat : List ℕ) → drop (7 * (k + 1)) seat ≡ drop 7 (drop (7 * k) seat)
-seven_more k seat =
-    ap (λ i. drop i seat) (let same : 7 * (k + 1) ≡ 7 * k + 7 = omega arith in same) ∙ sym (drop-drop 7 (7 * k) seat)
+pub eight_more : (k : ℕ) (seat : List ℕ) → drop (8 * (k + 1)) seat ≡ drop 8 (drop (8 * k) seat)
+eight_more k seat =
+    ap (λ i. drop i seat) (let same : 8 * (k + 1) ≡ 8 * k + 8 = omega arith in same) ∙ sym (drop-drop 8 (8 * k) seat)
 
 module _ (p : ℕ) (zero_of : ℕ → ℕ) (above : 1 < p) where
   pub product_below : (i : ℕ) (rs : List ℕ) → bits_product p zero_of i rs < p
@@ -87,18 +87,18 @@ module _ (p : ℕ) (zero_of : ℕ → ℕ) (above : 1 < p) where
   -- one table more, where v is the product of what there was and the table's entry for the low bits
   -- of the path
   pub one_table : (start index : ℕ) (seat : List ℕ) (tables : List (List ℕ)) (k path u v : ℕ) → AreTables p zero_of seat tables → k < length tables →
-      path < 2 ^ length (drop (7 * k) seat) →
-      ((y : ℕ) → get_or (get_or tables k []) (path % 128) 0 ≡ 8 * y → v ≡ product_mod p u y) →
-      (u * bits_product p zero_of path (drop (7 * k) seat)) % p ≡ (start * bits_product p zero_of index seat) % p →
-      (v * bits_product p zero_of (path / 128) (drop (7 * (k + 1)) seat)) % p ≡ (start * bits_product p zero_of index seat) % p
+      path < 2 ^ length (drop (8 * k) seat) →
+      ((y : ℕ) → get_or (get_or tables k []) (path % 256) 0 ≡ 8 * y → v ≡ product_mod p u y) →
+      (u * bits_product p zero_of path (drop (8 * k) seat)) % p ≡ (start * bits_product p zero_of index seat) % p →
+      (v * bits_product p zero_of (path / 256) (drop (8 * (k + 1)) seat)) % p ≡ (start * bits_product p zero_of index seat) % p
   one_table start index seat tables k path u v are within inside made before =
-      let rs : List ℕ = drop (7 * k) seat in
-      let a : ℕ = bits_product p zero_of (path % 128) (take 7 rs) in
-      let b : ℕ = bits_product p zero_of (path / 128) (drop 7 rs) in
-      let entry : get_or (get_or tables k []) (path % 128) 0 ≡ 8 * a = are k within (path % 128) (low_part 7 path rs inside) in
-      rw (seven_more k seat, made a entry)
+      let rs : List ℕ = drop (8 * k) seat in
+      let a : ℕ = bits_product p zero_of (path % 256) (take 8 rs) in
+      let b : ℕ = bits_product p zero_of (path / 256) (drop 8 rs) in
+      let entry : get_or (get_or tables k []) (path % 256) 0 ≡ 8 * a = are k within (path % 256) (low_part 8 path rs inside) in
+      rw (eight_more k seat, made a entry)
       (mul-mod_first (u * a) b p ∙ ap (λ y. y % p) (let same : u * a * b ≡ u * (a * b) = omega arith in same) ∙ sym (mul-mod_second u (a * b) p)
-      ∙ ap (λ w. (u * w) % p) (sym (split_product path 7 rs)) ∙ before)
+      ∙ ap (λ w. (u * w) % p) (sym (split_product path 8 rs)) ∙ before)
 
 -- a product with one less the challenge is the difference of the number and its product with the
 -- challenge

@@ -21,20 +21,20 @@ take_shorter zero rs = refl
 take_shorter (suc n) [] = let more : suc n + 1 ≡ suc (n + 1) = omega arith in rw more refl
 take_shorter (suc n) (r ∷ rs) = let more : suc n + 1 ≡ suc (n + 1) = omega arith in rw more (ap (λ xs. r ∷ xs) (take_shorter n rs))
 
--- a table of 128 entries has room to split those of fewer than seven levels
-pub table_room : (filled level : ℕ) → filled ≡ 2 ^ level → level < 7 → filled ≤ 64
+-- a table of 256 entries has room to split those of fewer than eight levels
+pub table_room : (filled level : ℕ) → filled ≡ 2 ^ level → level < 8 → filled ≤ 128
 table_room filled level count low =
-    let most : 2 ^ level ≤ 2 ^ 6 = pow-le-pow_right (let some : 0 < 2 = omega arith in some) (let le : level ≤ 6 = omega arith in le) in
+    let most : 2 ^ level ≤ 2 ^ 7 = pow-le-pow_right (let some : 0 < 2 = omega arith in some) (let le : level ≤ 7 = omega arith in le) in
     omega (arith, most, count)
 
--- the levels of such a table: all that there are where these are fewer than seven, and else seven
-pub first_seven : (rs : List ℕ) (level : ℕ) → (length rs < 7 × (level ≡ length rs)) ⊎ (7 ≤ length rs × (level ≡ 7))
-    → (take level rs ≡ take 7 rs) × (level ≡ length (take 7 rs))
-first_seven rs level (inl few) =
-    let whole : take 7 rs ≡ rs = take_all 7 rs (omega (arith, few.0)) in
+-- the levels of such a table: all that there are where these are fewer than eight, and else eight
+pub first_eight : (rs : List ℕ) (level : ℕ) → (length rs < 8 × (level ≡ length rs)) ⊎ (8 ≤ length rs × (level ≡ 8))
+    → (take level rs ≡ take 8 rs) × (level ≡ length (take 8 rs))
+first_eight rs level (inl few) =
+    let whole : take 8 rs ≡ rs = take_all 8 rs (omega (arith, few.0)) in
     (take_all level rs (omega (arith, few.1)) ∙ sym whole, few.1 ∙ ap length (sym whole))
-first_seven rs level (inr many) =
-    (ap (λ k. take k rs) many.1, many.1 ∙ sym (length-take-le 7 rs (omega (arith, many.0))))
+first_eight rs level (inr many) =
+    (ap (λ k. take k rs) many.1, many.1 ∙ sym (length-take-le 8 rs (omega (arith, many.0))))
 
 -- what entry e is to be, once so many levels are taken
 module _ {T : Type 0} (none : T) (Is : ℕ → ℕ → T → Type 0) where

@@ -22,8 +22,8 @@ abbrev pub HasProducts : ℕ → (ℕ → ℕ) → List ℕ → List ℕ → Typ
 HasProducts p zero challenges table =
     (e : ℕ) → e < 2 ^ length challenges → slice_index table e ≡ 8 * bits_product p zero e challenges
 
--- table g is that of the seven challenges from 7 * g on, or of those that are left
+-- table g is that of the eight challenges from 8 * g on, or of those that are left
 abbrev pub AreTables : ℕ → (ℕ → ℕ) → List ℕ → List (List ℕ) → Type 0
 AreTables p zero challenges tables =
     (g : ℕ) → g < length tables
-    → HasProducts p zero (take 7 (drop (7 * g) challenges)) (slice_index_or tables g [])
+    → HasProducts p zero (take 8 (drop (8 * g) challenges)) (slice_index_or tables g [])

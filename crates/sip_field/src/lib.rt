@@ -7,7 +7,7 @@
 //! - [`draw_one`] draws a challenge from a generator's words, [`draw_next`] the next few, and
 //!   [`draw_challenges`] the first ones of a seed.
 //! - [`Seat`] keeps the challenges of one query. [`fill_tables`] makes tables of products of them,
-//!   and [`by_tables`] looks a product up in these, seven challenges at a time.
+//!   and [`by_tables`] looks a product up in these, eight challenges at a time.
 //!
 //! No call takes memory. [`OutOfMemory`] stands here for the crates above.
 //!
@@ -63,7 +63,7 @@
 //! | `draw_next`, `draw_challenges` of n | 0 | n times `draw_one` |
 //! | `Seat::of` of n challenges | 0 | n copies |
 //! | `Seat::depth`, `Seat::at` | 0 | |
-//! | `fill_tables` | 127 for each seven challenges | as many `minus` for `Factors::Extension` |
+//! | `fill_tables` | 127 for each eight challenges | as many `minus` for `Factors::Extension` |
 //! | `by_tables`, `loosely_by_tables` of n tables | n | n look-ups |
 #![tactic(auto)]
 
@@ -79,7 +79,7 @@ mod small;
 
 pub use arithmetic::{Field, PrimeField};
 pub use drawing::{SeedSpent, draw_challenges, draw_next, draw_one};
-pub use factors::{Factors, by_tables, fill_tables, loosely_by_tables, of_wide};
+pub use factors::{Factors, by_tables, fill_tables, loosely_by_tables, made_tables, of_wide};
 pub use memory::OutOfMemory;
 pub use mersenne::M61;
 pub use polynomial::horner;

@@ -470,9 +470,5 @@ fn copy_of<F: Field, const CAP: usize>(root: &AugRoot<F, CAP>) -> AugRoot<F, CAP
     ensures hash { result.hash ≡ root.now.hash }
     ensures total { result.total ≡ root.now.total }
 {
-    AugRoot {
-        seat: root.seat.clone().unwrap(),
-        hash: root.hash,
-        total: root.total,
-    }
+    AugRoot::of(root.seat.clone().unwrap(), root.hash, root.total)
 }

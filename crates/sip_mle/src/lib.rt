@@ -6,9 +6,9 @@
 //! - [`interval_at`] is the extension of the list that is 1 from `lo` to `hi` and 0 elsewhere.
 //! - [`IntervalFold`] is that list itself, folded by one challenge after another.
 //!
-//! No call takes memory: a point is a seat and one number, and an interval is two values and two
-//! indexes, however long its list is. `Point::update_all` has its tables on the stack for one call,
-//! 7 KB.
+//! A point is a seat and one number, and an interval is two values and two indexes, however long
+//! its list is. Memory is taken by [`Point::keep_tables`] alone, 2 KiB for eight challenges.
+//! `Point::update_all` without them has its tables on the stack for one call, 12 KiB.
 //!
 //! # What the contracts say
 //!
@@ -31,7 +31,9 @@
 //! | `chi` | d |
 //! | `Point::new`, `Point::value`, `Point::absorb` | 0 |
 //! | `Point::update` | d |
-//! | `Point::update_all` of n, 32 and more | n for each 7 challenges, and 127 for their table |
+//! | `Point::keep_tables` | 255 for each 8 challenges |
+//! | `Point::update_all` of n with tables | n for each 8 challenges |
+//! | `Point::update_all` of n without, 32 and more | n and 255 for each 8 challenges |
 //! | `interval_at` | 2d |
 //! | `IntervalFold::new`, `IntervalFold::at` | 0 |
 //! | `IntervalFold::fold` | 2 |

@@ -1,7 +1,10 @@
 //! The extension of a vector at the challenges of a seat, as a running number.
-ghost use Rattle.std.specs.Prelude.{◌≡◌, ℕ, ◌+◌, ◌*◌, ◌%◌, ◌^◌, ◌<◌, ◌≤◌, ℤ, pos, List, ◌++◌, All};
-ghost use Rattle.std.specs.Prelude.{length, min, replicate};
+ghost use Rattle.std.specs.Prelude.{◌≡◌, ℕ, ◌+◌, ◌*◌, ◌/◌, ◌%◌, ◌^◌, ◌<◌, ◌≤◌, ℤ, pos, List, ◌++◌};
+ghost use Rattle.std.specs.Prelude.{All, length, min, replicate};
+ghost use Rattle.std.specs.Option.{ForSome};
+ghost use Rattle.sip_field.specs.Products.{AreTables, zero_factor};
 ghost use Rattle.sip_field.specs.Residue.{residue};
+ghost use Rattle.sip_field.specs.declared.factors.Factors.TheVariants as factors;
 ghost use Rattle.sip_mle.specs.Blocks.{point_after};
 ghost use Rattle.sip_mle.specs.StandsFor.{PointStandsFor};
 ghost use Rattle.sip_vector.specs.Weights.{raised_numbers, numbers_after};
@@ -13,8 +16,9 @@ ghost use Rattle.sip_vector.specs.declared.update.Side.{Side as AnySide};
 ghost use Rattle.sip_vector.specs.declared.update.Update.{Update as AnyUpdate};
 
 use crate::factor::times_chi;
-use sip_field::{Factors, Field, Seat, fill_tables};
+use sip_field::{Factors, Field, OutOfMemory, Seat, fill_tables, made_tables};
 use sip_vector::{Update, added_by_tables};
+use std::alloc::Global;
 
 /// The shortest block for which tables are made: below it they cost more than they save.
 const BLOCK: usize = 32;
@@ -26,7 +30,12 @@ pub struct Point<F: Field, const CAP: usize> {
     pub seat: Seat<F, CAP>,
     /// The extension, from 0 to `F::MODULUS - 1`.
     pub value: u64,
+    // The tables of the challenges, where they are kept.
+    tables: Option<Vec<[u64; 256]>>,
     ghost below: { value < F.MODULUS },
+    ghost enough: { ForSome tables (λ made. length made.items ≡ (length seat + 7) / 8) },
+    ghost made: { ForSome tables (λ made. AreTables F.MODULUS (zero_factor F.MODULUS
+        factors.Extension) seat made.items) },
 }
 
 impl<F: Field, const CAP: usize> Point<F, CAP> {
@@ -37,7 +46,24 @@ impl<F: Field, const CAP: usize> Point<F, CAP> {
         ensures stands { PointStandsFor F.MODULUS seat result.value (replicate (2 ^ length seat)
             (pos 0)) }
     {
-        Point { seat, value: 0 }
+        Point {
+            seat,
+            value: 0,
+            tables: None,
+        }
+    }
+
+    /// The extension that is this number, as a file has it.
+    pub fn of(seat: Seat<F, CAP>, value: u64) -> Point<F, CAP>
+        requires { value < F.MODULUS }
+        ensures seat { result.seat ≡ seat }
+        ensures value { result.value ≡ value }
+    {
+        Point {
+            seat,
+            value,
+            tables: None,
+        }
     }
 
     /// The extension after `delta` is added to the entry `index`.
@@ -59,12 +85,25 @@ impl<F: Field, const CAP: usize> Point<F, CAP> {
         self.value = F::of_number(self.value).plus(term).number();
     }
 
+    /// Keeps the tables of the challenges from now on, 2 KiB for eight of them, by which
+    /// [`update_all`](Point::update_all) adds its updates then. The extension stays as it is, also
+    /// where there is no memory.
+    ///
+    /// 255 `times` for eight challenges.
+    pub fn keep_tables(&mut self, alloc: Global) -> Result<(), OutOfMemory>
+        ensures seat { self.new.seat ≡ self.old.seat }
+        ensures value { self.new.value ≡ self.old.value }
+    {
+        let tables = made_tables(alloc, &self.seat, Factors::Extension)?;
+        self.tables = Some(tables);
+        Ok(())
+    }
+
     /// The extension after each of these updates, whatever their sides.
     ///
-    /// One `times` for an update and seven challenges, and 127 for seven challenges, whose table of
-    /// products is on the stack for this call. A block of less than 32 updates is `update` for
-    /// each.
-    #[inline(never)]
+    /// One `times` for an update and eight challenges by tables that are kept. Where none are, they
+    /// are made on the stack for this call, by 255 for eight challenges, and a block of less than
+    /// 32 updates is `update` for each.
     pub fn update_all(&mut self, updates: &[Update])
         requires depth { length self.old.seat ≤ most_depth }
         requires items { All (λ u. u.item < 2 ^ length self.old.seat) updates.now }
@@ -76,12 +115,28 @@ impl<F: Field, const CAP: usize> Point<F, CAP> {
             → PointStandsFor F.MODULUS self.new.seat self.new.value
             (numbers_after numbers updates.now) }
     {
+        let value = match &self.tables {
+            Some(tables) => added_by_tables(F::of_number(self.value), tables, updates).number(),
+            None => return self.update_anew(updates),
+        };
+        self.value = value;
+    }
+
+    // The same without tables that are kept.
+    #[inline(never)]
+    fn update_anew(&mut self, updates: &[Update])
+        requires depth { length self.old.seat ≤ most_depth }
+        requires items { All (λ u. u.item < 2 ^ length self.old.seat) updates.now }
+        ensures seat { self.new.seat ≡ self.old.seat }
+        ensures value { self.new.value
+            ≡ point_after F.MODULUS self.old.seat self.old.value updates.now }
+    {
         if updates.len() < BLOCK {
             for update in updates {
                 self.update(update.item, update.delta);
             }
         } else {
-            let mut tables = [[0; 128]; 7];
+            let mut tables = [[0; 256]; 6];
             let count = fill_tables(&mut tables, &self.seat, Factors::Extension);
             let point = F::of_number(self.value);
             self.value = added_by_tables(point, &tables[..count], updates).number();

@@ -21,11 +21,12 @@ ghost use Rattle.sip_sketch.specs.inside.Raising.{HasSecond, IsRaised, IsTotalAf
 ghost use Rattle.sip_sketch.specs.inside.Raising.{StartsAt};
 
 use crate::SeatKind;
-use sip_field::{Field, M61, Seat};
+use sip_field::{Field, M61, OutOfMemory, Seat};
 use sip_mle::Point;
 use sip_tree::{AugRoot, Root};
 use sip_vector::{CAP, Side, Update};
 use sip_verifier::{Points, Running};
+use std::alloc::Global;
 use std::marker::Model;
 
 /// The greatest total of a side.
@@ -49,26 +50,15 @@ pub(crate) fn running_of(kind: SeatKind, block: Seat<M61, CAP>, first: u64, seco
     ensures second { second_number (numbers_of result) ≡ second }
 {
     match kind {
-        SeatKind::Entries => Running::Root(Root {
-            seat: block,
-            value: first,
-        }),
-        SeatKind::Sums(_) => Running::Point(Point {
-            seat: block,
-            value: first,
-        }),
+        SeatKind::Entries => Running::Root(Root::of(block, first)),
+        SeatKind::Sums(_) => Running::Point(Point::of(block, first)),
         SeatKind::Products => Running::Points(Points {
-            first: Point {
-                seat: block,
-                value: first,
-            },
+            first: Point::of(block, first),
             second: M61::of_number(second),
         }),
-        SeatKind::Heavy(_) => Running::AugRoot(AugRoot {
-            seat: block,
-            hash: first,
-            total: second as i64 - MOST_TOTAL,
-        }),
+        SeatKind::Heavy(_) => {
+            Running::AugRoot(AugRoot::of(block, first, second as i64 - MOST_TOTAL))
+        }
     }
 }
 
@@ -223,6 +213,17 @@ impl SketchSeat {
             is_used: false,
             running,
         }
+    }
+
+    /// Keeps tables of the challenges, by which updates are added, where no question has used the
+    /// seat.
+    pub(crate) fn keep_tables(&mut self, alloc: Global) -> Result<(), OutOfMemory>
+        ensures { self.new ≡ self.old }
+    {
+        if self.is_used {
+            return Ok(());
+        }
+        self.running.keep_tables(alloc)
     }
 
     /// Adds updates, which are split by side, where no question has used the seat.

@@ -12,7 +12,9 @@ ghost use Rattle.sip_sketch.specs.inside.Raising.{IsGrown, IsNext};
 
 use crate::Sketch;
 use crate::reading::MOST_WEIGHT;
+use sip_field::OutOfMemory;
 use sip_vector::{Depth, Fingerprint, Negatives, Side, Tally, Update, take_side};
+use std::alloc::Global;
 
 /// The most updates that [`Sketch::update_all`] takes at once.
 pub const MOST_UPDATES: usize = 512;
@@ -94,12 +96,26 @@ impl Sketch {
         true
     }
 
+    /// Keeps tables of the challenges of each unused seat, by which blocks are added from now on: 2
+    /// KiB for a seat and eight levels, and 4 for heavy hitters. So 64 seats at depth 48 take 768
+    /// KiB at the least, and 1,536 at the most. The sketch stays as it is, also where there is no
+    /// memory.
+    pub fn keep_tables(&mut self, alloc: Global) -> Result<(), OutOfMemory>
+        ensures { self.new ≡ self.old }
+    {
+        for seat in self.seats.iter_mut() {
+            seat.keep_tables(alloc)?;
+        }
+        Ok(())
+    }
+
     /// Adds a block of updates, which may come next ([`Sketch::takes`]), to what is told of the
     /// stream and to each unused seat.
     ///
     /// The block is split by side once, for all seats. Then an update takes, for each seat that it
-    /// concerns, one look-up and one multiplication for each seven levels; their tables are made
-    /// once for a block and a seat, on the stack. No memory.
+    /// concerns, one look-up and one multiplication for each eight levels, by the tables that are
+    /// kept ([`Sketch::keep_tables`]). Where none are, they are made once for a block and a seat, on
+    /// the stack. No memory.
     pub fn update_all(&mut self, updates: &[Update])
         requires most { length updates.now ≤ MOST_UPDATES }
         requires next { MayCome self.old updates.now }

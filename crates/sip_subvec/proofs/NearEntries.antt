@@ -6,24 +6,24 @@ use Rattle.std.proofs.lemmas.Nat.{mul-mod_first, mul-mod_second}
 use Rattle.sip_field.specs.Products.{HasProducts, AreTables}
 
 -- the tables behind the first k are those of the challenges behind their groups
-pub tables_above : (p : ℕ) (zero : ℕ → ℕ) (k : ℕ) (seat : List ℕ) (tables : List (List ℕ)) → AreTables p zero seat tables → AreTables p zero (drop (7 * k) seat) (drop k tables)
+pub tables_above : (p : ℕ) (zero : ℕ → ℕ) (k : ℕ) (seat : List ℕ) (tables : List (List ℕ)) → AreTables p zero seat tables → AreTables p zero (drop (8 * k) seat) (drop k tables)
 tables_above p zero k seat tables are g inside =
     let here : k + g < length tables = omega (arith, inside, length-drop k tables) in
-    let place : drop (7 * (k + g)) seat ≡ drop (7 * g) (drop (7 * k) seat) =
-    ap (λ i. drop i seat) (let same : 7 * (k + g) ≡ 7 * k + 7 * g = omega arith in same) ∙ sym (drop-drop (7 * g) (7 * k) seat) in
-    subst (λ cs. HasProducts p zero (take 7 cs) (get_or (drop k tables) g [])) place
-    (subst (λ t. HasProducts p zero (take 7 (drop (7 * (k + g)) seat)) t) (sym (get_or-drop k tables g [])) (are (k + g) here))
+    let place : drop (8 * (k + g)) seat ≡ drop (8 * g) (drop (8 * k) seat) =
+    ap (λ i. drop i seat) (let same : 8 * (k + g) ≡ 8 * k + 8 * g = omega arith in same) ∙ sym (drop-drop (8 * g) (8 * k) seat) in
+    subst (λ cs. HasProducts p zero (take 8 cs) (get_or (drop k tables) g [])) place
+    (subst (λ t. HasProducts p zero (take 8 (drop (8 * (k + g)) seat)) t) (sym (get_or-drop k tables g [])) (are (k + g) here))
 
 -- and the first k are those of the challenges of their groups
-pub tables_below : (p : ℕ) (zero : ℕ → ℕ) (k : ℕ) (seat : List ℕ) (tables : List (List ℕ)) → k ≤ length tables → AreTables p zero seat tables → AreTables p zero (take (7 * k) seat) (take k tables)
+pub tables_below : (p : ℕ) (zero : ℕ → ℕ) (k : ℕ) (seat : List ℕ) (tables : List (List ℕ)) → k ≤ length tables → AreTables p zero seat tables → AreTables p zero (take (8 * k) seat) (take k tables)
 tables_below p zero k seat tables few are g inside =
     let below : g < k = omega (arith, inside, length-take-le k tables few) in
-    let left : ℕ = 7 * k - 7 * g in
-    let whole : 7 * k ≡ 7 * g + left = omega arith in
-    let group : take 7 (drop (7 * g) (take (7 * k) seat)) ≡ take 7 (drop (7 * g) seat) =
-    ap (λ n. take 7 (drop (7 * g) (take n seat))) whole ∙ ap (take 7) (drop-take (7 * g) left seat) ∙ take-take 7 left (drop (7 * g) seat) (omega arith) in
+    let left : ℕ = 8 * k - 8 * g in
+    let whole : 8 * k ≡ 8 * g + left = omega arith in
+    let group : take 8 (drop (8 * g) (take (8 * k) seat)) ≡ take 8 (drop (8 * g) seat) =
+    ap (λ n. take 8 (drop (8 * g) (take n seat))) whole ∙ ap (take 8) (drop-take (8 * g) left seat) ∙ take-take 8 left (drop (8 * g) seat) (omega arith) in
     subst (λ cs. HasProducts p zero cs (get_or (take k tables) g [])) (sym group)
-    (subst (λ t. HasProducts p zero (take 7 (drop (7 * g) seat)) t) (sym (get_or-take k tables g [] below)) (are g (omega (arith, below, few))))
+    (subst (λ t. HasProducts p zero (take 8 (drop (8 * g) seat)) t) (sym (get_or-take k tables g [] below)) (are g (omega (arith, below, few))))
 
 -- one term more, where a is the product of the low bits, b that of the path, and x has the residue of the term
 pub near_more : (p sum near b a r x : ℕ) → x % p ≡ (r * a) % p → (sum + (near + x) * b) % p ≡ ((sum + near * b) % p + (r * ((a * b) % p)) % p) % p

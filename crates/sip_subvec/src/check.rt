@@ -300,8 +300,5 @@ fn copy_of<F: Field, const CAP: usize>(root: &Root<F, CAP>) -> Root<F, CAP>
     ensures seat { result.seat ≡ root.now.seat }
     ensures value { result.value ≡ root.now.value }
 {
-    Root {
-        seat: root.seat.clone().unwrap(),
-        value: root.value,
-    }
+    Root::of(root.seat.clone().unwrap(), root.value)
 }

@@ -43,12 +43,12 @@ fn walked(alloc: Global, vector: &Vector) -> Result<Vec<Entry>, OutOfMemory>
     Ok(list)
 }
 
-// Makes the tables of all these challenges, and says how many they are. 127 `times` for seven
+// Makes the tables of all these challenges, and says how many they are. 255 `times` for seven
 // challenges.
-pub(crate) fn tables_of<F: Field>(tables: &mut [[u64; 128]; 7], challenges: &[F]) -> usize
+pub(crate) fn tables_of<F: Field>(tables: &mut [[u64; 256]; 6], challenges: &[F]) -> usize
     requires { length challenges.now ≤ most_depth }
-    ensures count { result ≤ 7 }
-    ensures all { length challenges.now ≤ 7 * result }
+    ensures count { result ≤ 6 }
+    ensures all { length challenges.now ≤ 8 * result }
     ensures tables { AreTables F.MODULUS (zero_factor F.MODULUS Tree)
         (map F.number challenges.now) (take result tables.new) }
 {
@@ -62,7 +62,7 @@ pub(crate) fn tables_of<F: Field>(tables: &mut [[u64; 128]; 7], challenges: &[F]
 // of these challenges. One `times` for each table and entry below the node.
 pub(crate) fn node<F: Field>(
     entries: &[Entry],
-    tables: &[[u64; 128]],
+    tables: &[[u64; 256]],
     height: usize,
     index: u64,
 ) -> F
@@ -70,7 +70,7 @@ pub(crate) fn node<F: Field>(
     requires within { index < 2 ^ (most_depth - height) }
     ensures { (challenges : List ℕ) → length challenges ≡ height
         → AreTables F.MODULUS (zero_factor F.MODULUS Tree) challenges tables.now
-        → length challenges ≤ 7 * length tables.now → Rises 0 entries.now
+        → length challenges ≤ 8 * length tables.now → Rises 0 entries.now
         → F.number result
         ≡ entries_sum F.MODULUS challenges (entries_below height index entries.now)
         % F.MODULUS }
@@ -95,15 +95,15 @@ fn stretch(entries: &[Entry], first: u64, last: u64) -> &[Entry]
 // them have in common what the tables above say, where they lie evenly below `size` indices.
 fn own_tables(entries: &[Entry], size: u64, count: usize) -> usize
     ensures most { result ≤ count }
-    ensures few { result ≤ 7 }
+    ensures few { result ≤ 6 }
 {
-    let most = count.min(7);
+    let most = count.min(6);
     let mut reach = size / (entries.len() as u64 + 1) / 4;
     for own in 1..most {
         if reach == 0 {
             return own;
         }
-        reach /= 128;
+        reach /= 256;
     }
     most
 }
@@ -111,11 +111,11 @@ fn own_tables(entries: &[Entry], size: u64, count: usize) -> usize
 // The sum of these entries, each times the product of the challenges at the bits of its index that
 // are 1. There are as many challenges as `size` has bits 0, and the higher bits of an index count
 // nothing.
-fn weighed<F: Field>(entries: &[Entry], tables: &[[u64; 128]], size: u64) -> F
+fn weighed<F: Field>(entries: &[Entry], tables: &[[u64; 256]], size: u64) -> F
     requires some { 0 < size }
     ensures { (challenges : List ℕ) → size ≡ 2 ^ length challenges
         → AreTables F.MODULUS (zero_factor F.MODULUS Tree) challenges tables.now
-        → length challenges ≤ 7 * length tables.now
+        → length challenges ≤ 8 * length tables.now
         → F.number result ≡ entries_sum F.MODULUS challenges entries.now % F.MODULUS }
 {
     let own = own_tables(entries, size, tables.len());
@@ -126,15 +126,15 @@ fn weighed<F: Field>(entries: &[Entry], tables: &[[u64; 128]], size: u64) -> F
 // The same by the tables of the lowest bits, which are looked up in for each entry, and by those of
 // the others. For each number of the former there is a loop of its own, since one that the compiler
 // knows the length of takes two thirds of the time.
-fn weighed_by<F: Field>(entries: &[Entry], low: &[[u64; 128]], high: &[[u64; 128]], size: u64) -> F
+fn weighed_by<F: Field>(entries: &[Entry], low: &[[u64; 256]], high: &[[u64; 256]], size: u64) -> F
     requires some { 0 < size }
-    requires few { length low.now ≤ 7 }
+    requires few { length low.now ≤ 6 }
     ensures { (challenges : List ℕ) → size ≡ 2 ^ length challenges
         → AreTables F.MODULUS (zero_factor F.MODULUS Tree)
-        (take (7 * length low.now) challenges) low.now
+        (take (8 * length low.now) challenges) low.now
         → AreTables F.MODULUS (zero_factor F.MODULUS Tree)
-        (drop (7 * length low.now) challenges) high.now
-        → length (drop (7 * length low.now) challenges) ≤ 7 * length high.now
+        (drop (8 * length low.now) challenges) high.now
+        → length (drop (8 * length low.now) challenges) ≤ 8 * length high.now
         → F.number result ≡ entries_sum F.MODULUS challenges entries.now % F.MODULUS }
 {
     match low.len() {
@@ -144,8 +144,7 @@ fn weighed_by<F: Field>(entries: &[Entry], low: &[[u64; 128]], high: &[[u64; 128
         3 => summed::<F, 3>(entries, low, high, size),
         4 => summed::<F, 4>(entries, low, high, size),
         5 => summed::<F, 5>(entries, low, high, size),
-        6 => summed::<F, 6>(entries, low, high, size),
-        _ => summed::<F, 7>(entries, low, high, size),
+        _ => summed::<F, 6>(entries, low, high, size),
     }
 }
 
@@ -153,22 +152,22 @@ fn weighed_by<F: Field>(entries: &[Entry], low: &[[u64; 128]], high: &[[u64; 128
 // higher bits in common, and these bits' product is looked up once for them.
 fn summed<F: Field, const N: usize>(
     entries: &[Entry],
-    low: &[[u64; 128]],
-    high: &[[u64; 128]],
+    low: &[[u64; 256]],
+    high: &[[u64; 256]],
     size: u64,
 ) -> F
     requires exact { length low.now ≡ N }
-    requires few { N ≤ 7 }
+    requires few { N ≤ 6 }
     requires some { 0 < size }
     ensures { (challenges : List ℕ) → size ≡ 2 ^ length challenges
         → AreTables F.MODULUS (zero_factor F.MODULUS Tree)
-        (take (7 * length low.now) challenges) low.now
+        (take (8 * length low.now) challenges) low.now
         → AreTables F.MODULUS (zero_factor F.MODULUS Tree)
-        (drop (7 * length low.now) challenges) high.now
-        → length (drop (7 * length low.now) challenges) ≤ 7 * length high.now
+        (drop (8 * length low.now) challenges) high.now
+        → length (drop (8 * length low.now) challenges) ≤ 8 * length high.now
         → F.number result ≡ entries_sum F.MODULUS challenges entries.now % F.MODULUS }
 {
-    let reach = 1u64 << (7 * N);
+    let reach = 1u64 << (8 * N);
     let mut sums = Near {
         sum: F::of(0),
         near: 0,
@@ -195,12 +194,12 @@ struct Near<F: Field> {
 }
 
 // The same sum, with another path.
-fn moved_to<F: Field>(sums: Near<F>, high: &[[u64; 128]], path: u64) -> Near<F>
+fn moved_to<F: Field>(sums: Near<F>, high: &[[u64; 256]], path: u64) -> Near<F>
     ensures path { result.path ≡ path }
     ensures near { result.near ≤ sums.near }
     ensures sum { (challenges : List ℕ)
         → AreTables F.MODULUS (zero_factor F.MODULUS Tree) challenges high.now
-        → length challenges ≤ 7 * length high.now → sums.path < 2 ^ length challenges
+        → length challenges ≤ 8 * length high.now → sums.path < 2 ^ length challenges
         → (F.number result.sum + result.near
         * bits_product F.MODULUS (zero_factor F.MODULUS Tree) path challenges) % F.MODULUS
         ≡ (F.number sums.sum + sums.near

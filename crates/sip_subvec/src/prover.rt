@@ -100,16 +100,16 @@ impl<F: Field> SubProver<F> {
     /// The siblings of the interval: the node left of it where its first index is odd, and the one
     /// right of it where its last index is even.
     ///
-    /// O(log m), without memory: 127 `times` for each seven challenges so far, whose products are
-    /// on the stack for this call. An entry below the siblings takes one for each seven challenges
+    /// O(log m), without memory: 255 `times` for each eight challenges so far, whose products are
+    /// on the stack for this call. An entry below the siblings takes one for each eight challenges
     /// that tell it from its neighbours, so that some 32 of them have the higher bits in common,
-    /// and such a run takes one for each seven challenges above these.
+    /// and such a run takes one for each eight challenges above these.
     pub fn siblings(&self) -> SiblingPair<F>
         requires { 2 ≤ length self.now.level }
         ensures left { option_map F.number result.left ≡ (its_siblings self.now).left }
         ensures right { option_map F.number result.right ≡ (its_siblings self.now).right }
     {
-        let mut tables = [[1; 128]; 7];
+        let mut tables = [[1; 256]; 6];
         let count = tables_of(&mut tables, &self.challenges);
         let height = self.challenges.len();
         let left = if self.lo % 2 == 1 {

@@ -2,12 +2,13 @@
 -- do.
 use Rattle.std.proofs.Common.{◌≡◌, ℕ, zero, suc, ◌+◌, ◌-◌, ◌*◌, ◌/◌, ◌%◌, ◌^◌, ◌<◌, ◌≤◌, ◌==◌, if◌then◌else◌, negsuc, List, [], ◌∷◌, length, get_or, take, drop, refl, sym, ◌∙◌, ap, arith}
 use Rattle.std.proofs.Math.Nat.{zero-mod, mod-eq_of_lt, pow-succ', div-div-eq-div-mul, div-eq_of_lt, mod-add-mod, add-mod-mod, mod-mod, add-mul-mod_self_left}
+use Rattle.std.specs.List.{AllZip}
 use Rattle.std.specs.Prelude.{All}
 use Rattle.std.proofs.lemmas.List.{drop_more, drop-take}
 use Rattle.std.proofs.lemmas.List.Elements.{All-get_or}
 use Rattle.std.proofs.lemmas.Nat.{mul-mod_first, mul-mod_second, pow_pos, mod-mul-add, div-mul-add}
 use Rattle.sip_field.proofs.Doubling.{low_bit, low_half, take_shorter}
-use Rattle.sip_field.proofs.BitProducts.{low_part, seven_more}
+use Rattle.sip_field.proofs.BitProducts.{low_part, eight_more}
 use Rattle.sip_field.specs.Residue.{residue, difference_mod}
 use Rattle.sip_vector.specs.Weights.{hash_weight_from}
 use Rattle.sip_vector.proofs.TreeResidues.{mod_plus, mod_cancel}
@@ -94,19 +95,19 @@ later_start (suc k) later = refl
 -- the first table, where the hash below is h more than 1
 pub first_table : (p index h : ℕ) (seat : List ℕ) (tables : List (List Step)) (v : ℕ) → AreStepTables p seat tables → 0 < length tables → h < p →
     index < 2 ^ length seat →
-    v ≡ (h * (get_or (get_or tables 0 []) (index % 128) no_step).scale + (get_or (get_or tables 0 []) (index % 128) no_step).shift) % p →
-    hash_weight_from p v (index / 128) (drop 7 seat) ≡ hash_weight_from p ((1 + h) % p) index seat
+    v ≡ (h * (get_or (get_or tables 0 []) (index % 256) no_step).scale + (get_or (get_or tables 0 []) (index % 256) no_step).shift) % p →
+    hash_weight_from p v (index / 256) (drop 8 seat) ≡ hash_weight_from p ((1 + h) % p) index seat
 first_table p index h seat tables v are within small inside made =
-    let entry : hash_weight_from p ((1 + h) % p) (index % 128) (take 7 seat) ≡ v =
-    are 0 within (index % 128) (low_part 7 index seat inside) h small ∙ sym made in
-    ap (λ x. hash_weight_from p x (index / 128) (drop 7 seat)) (sym entry) ∙ sym (split_hash p ((1 + h) % p) index 7 seat)
+    let entry : hash_weight_from p ((1 + h) % p) (index % 256) (take 8 seat) ≡ v =
+    are 0 within (index % 256) (low_part 8 index seat inside) h small ∙ sym made in
+    ap (λ x. hash_weight_from p x (index / 256) (drop 8 seat)) (sym entry) ∙ sym (split_hash p ((1 + h) % p) index 8 seat)
 
 -- where it is 1
 pub first_step_table : (p index : ℕ) (seat : List ℕ) (tables : List (List Step)) → 1 < p → AreStepTables p seat tables → 0 < length tables →
-    (get_or (get_or tables 0 []) (index % 128) no_step).shift < p → index < 2 ^ length seat →
-    hash_weight_from p (get_or (get_or tables 0 []) (index % 128) no_step).shift (index / 128) (drop 7 seat) ≡ hash_weight_from p 1 index seat
+    (get_or (get_or tables 0 []) (index % 256) no_step).shift < p → index < 2 ^ length seat →
+    hash_weight_from p (get_or (get_or tables 0 []) (index % 256) no_step).shift (index / 256) (drop 8 seat) ≡ hash_weight_from p 1 index seat
 first_step_table p index seat tables above are within small inside =
-    let step : Step = get_or (get_or tables 0 []) (index % 128) no_step in
+    let step : Step = get_or (get_or tables 0 []) (index % 256) no_step in
     let made : step.shift ≡ (0 * step.scale + step.shift) % p =
     sym (mod-eq_of_lt small) ∙ ap (λ x. x % p) (let same : step.shift ≡ 0 * step.scale + step.shift = omega arith in same) in
     first_table p index 0 seat tables step.shift are within (omega (arith, above)) inside made
@@ -125,12 +126,12 @@ less_twice (suc (suc q)) a b above small =
     (ap (λ x. x % p) left ∙ add-mul-mod_self_left a p 2 ∙ sym (add-mul-mod_self_left a p b) ∙ ap (λ x. x % p) (sym right))
 
 pub first_negative_table : (p index : ℕ) (seat : List ℕ) (tables : List (List Step)) (v : ℕ) → 1 < p → AreStepTables p seat tables → 0 < length tables →
-    (get_or (get_or tables 0 []) (index % 128) no_step).scale < p → index < 2 ^ length seat →
-    v ≡ difference_mod p (difference_mod p (get_or (get_or tables 0 []) (index % 128) no_step).shift (get_or (get_or tables 0 []) (index % 128) no_step).scale)
-    (get_or (get_or tables 0 []) (index % 128) no_step).scale →
-    hash_weight_from p v (index / 128) (drop 7 seat) ≡ hash_weight_from p (residue p (negsuc 0)) index seat
+    (get_or (get_or tables 0 []) (index % 256) no_step).scale < p → index < 2 ^ length seat →
+    v ≡ difference_mod p (difference_mod p (get_or (get_or tables 0 []) (index % 256) no_step).shift (get_or (get_or tables 0 []) (index % 256) no_step).scale)
+    (get_or (get_or tables 0 []) (index % 256) no_step).scale →
+    hash_weight_from p v (index / 256) (drop 8 seat) ≡ hash_weight_from p (residue p (negsuc 0)) index seat
 first_negative_table p index seat tables v above are within small inside made =
-    let step : Step = get_or (get_or tables 0 []) (index % 128) no_step in
+    let step : Step = get_or (get_or tables 0 []) (index % 256) no_step in
     let none : 0 % p ≡ 0 = zero-mod p in
     let less : (1 + (p - 2)) % p ≡ residue p (negsuc 0) =
     ap (λ x. x % p) (let same : 1 + (p - 2) ≡ p - 1 = omega (arith, above) in same) ∙ mod-eq_of_lt (omega (arith, above)) ∙ (let same : p - 1 ≡ p - 1 - 0 % p = omega (arith, none) in same) in
@@ -139,13 +140,20 @@ first_negative_table p index seat tables v above are within small inside made =
 
 -- one table more
 pub one_step_table : (p whole : ℕ) (seat : List ℕ) (tables : List (List Step)) (k path u v : ℕ) → AreStepTables p seat tables → 1 ≤ k → k < length tables → u < p →
-    path < 2 ^ length (drop (7 * k) seat) →
-    v ≡ (u * (get_or (get_or tables k []) (path % 128) no_step).scale + (get_or (get_or tables k []) (path % 128) no_step).shift) % p →
-    hash_weight_from p u path (drop (7 * k) seat) ≡ whole →
-    hash_weight_from p v (path / 128) (drop (7 * (k + 1)) seat) ≡ whole
+    path < 2 ^ length (drop (8 * k) seat) →
+    v ≡ (u * (get_or (get_or tables k []) (path % 256) no_step).scale + (get_or (get_or tables k []) (path % 256) no_step).shift) % p →
+    hash_weight_from p u path (drop (8 * k) seat) ≡ whole →
+    hash_weight_from p v (path / 256) (drop (8 * (k + 1)) seat) ≡ whole
 one_step_table p whole seat tables k path u v are later within small inside made before =
-    let rs : List ℕ = drop (7 * k) seat in
+    let rs : List ℕ = drop (8 * k) seat in
     let start : (start_of k + u) % p ≡ u = ap (λ s. (s + u) % p) (later_start k later) ∙ ap (λ x. x % p) (let same : 0 + u ≡ u = omega arith in same) ∙ mod-eq_of_lt small in
-    let entry : hash_weight_from p u (path % 128) (take 7 rs) ≡ v =
-    ap (λ h. hash_weight_from p h (path % 128) (take 7 rs)) (sym start) ∙ are k within (path % 128) (low_part 7 path rs inside) u small ∙ sym made in
-    rw (seven_more k seat) (ap (λ x. hash_weight_from p x (path / 128) (drop 7 rs)) (sym entry) ∙ sym (split_hash p u path 7 rs) ∙ before)
+    let entry : hash_weight_from p u (path % 256) (take 8 rs) ≡ v =
+    ap (λ h. hash_weight_from p h (path % 256) (take 8 rs)) (sym start) ∙ are k within (path % 256) (low_part 8 path rs inside) u small ∙ sym made in
+    rw (eight_more k seat) (ap (λ x. hash_weight_from p x (path / 256) (drop 8 rs)) (sym entry) ∙ sym (split_hash p u path 8 rs) ∙ before)
+
+-- copies of steps are the same steps
+pub equal_copies : (xs ys : List Step) → AllZip (λ x y. y ≡ x) xs ys → ys ≡ xs
+equal_copies [] [] h = refl
+equal_copies [] (y ∷ ys) h = absurd h
+equal_copies (x ∷ xs) [] h = absurd h
+equal_copies (x ∷ xs) (y ∷ ys) h = ap (λ z. z ∷ ys) h.0 ∙ ap (λ zs. x ∷ zs) (equal_copies xs ys h.1)

@@ -13,12 +13,12 @@ no_update = record { side = First; item = 0; delta = pos 0 }
 -- these updates have a level for each
 abbrev pub IsSum : ℕ → (List ℕ → Type 0) → ℕ → List Update → (List ℕ → ℕ) → ℕ → Type 0
 IsSum p AreFor tables updates value sum =
-    (challenges : List ℕ) → AreFor challenges → length challenges ≤ 7 * tables
+    (challenges : List ℕ) → AreFor challenges → length challenges ≤ 8 * tables
     → All (λ u. u.item < 2 ^ length challenges) updates → sum % p ≡ value challenges
 
 -- one update more
 pub sum_next : (p : ℕ) (AreFor : List ℕ → Type 0) (tables : ℕ) (term : List ℕ → Update → ℕ) (start : ℕ) (updates : List Update) (k sum x : ℕ) → k < length updates
-    → ((challenges : List ℕ) → AreFor challenges → length challenges ≤ 7 * tables → (get_or updates k no_update).item < 2 ^ length challenges
+    → ((challenges : List ℕ) → AreFor challenges → length challenges ≤ 8 * tables → (get_or updates k no_update).item < 2 ^ length challenges
     → x % p ≡ term challenges (get_or updates k no_update) % p)
     → IsSum p AreFor tables updates (λ challenges. after p (term challenges) start (take k updates)) sum
     → IsSum p AreFor tables updates (λ challenges. after p (term challenges) start (take (k + 1) updates)) (sum + x)

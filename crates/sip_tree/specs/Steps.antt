@@ -29,11 +29,11 @@ abbrev pub start_of : ℕ → ℕ
 start_of zero = 1
 start_of (suc g) = 0
 
--- table g is that of the seven challenges from 7 * g on, or of those that are left
+-- table g is that of the eight challenges from 8 * g on, or of those that are left
 abbrev pub AreStepTables : ℕ → List ℕ → List (List Step) → Type 0
 AreStepTables p challenges tables =
     (g : ℕ) → g < length tables
-    → HasSteps p (start_of g) (take 7 (drop (7 * g) challenges)) (slice_index_or tables g [])
+    → HasSteps p (start_of g) (take 8 (drop (8 * g) challenges)) (slice_index_or tables g [])
 
 -- 1 with the sign of a number: the hash of a leaf in the split tree whose number is that and whose
 -- weight is 1

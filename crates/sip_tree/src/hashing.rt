@@ -10,12 +10,12 @@ use sip_vector::Update;
 /// The hash after these updates, by the tables of all levels.
 ///
 /// One `loose_times` for an update and a table.
-pub(crate) fn hashed<F: Field>(hash: F, tables: &[[Step; 128]], updates: &[Update]) -> F
+pub(crate) fn hashed<F: Field>(hash: F, tables: &[[Step; 256]], updates: &[Update]) -> F
     requires some { 1 ≤ length tables.now }
-    requires few { length tables.now ≤ 7 }
+    requires few { length tables.now ≤ 6 }
     requires below { All (All (IsBelow F.MODULUS)) tables.now }
     ensures { (challenges : List ℕ) → AreStepTables F.MODULUS challenges tables.now
-        → length challenges ≤ 7 * length tables.now
+        → length challenges ≤ 8 * length tables.now
         → All (λ u. u.item < 2 ^ length challenges) updates.now
         → F.number result ≡ hash_after F.MODULUS challenges (F.number hash) updates.now }
 {
@@ -33,12 +33,12 @@ pub(crate) fn hashed<F: Field>(hash: F, tables: &[[Step; 128]], updates: &[Updat
 /// size times what the levels make of its sign.
 ///
 /// One `loose_times` for an update and a table.
-pub(crate) fn split_hashed<F: Field>(hash: F, tables: &[[Step; 128]], updates: &[Update]) -> F
+pub(crate) fn split_hashed<F: Field>(hash: F, tables: &[[Step; 256]], updates: &[Update]) -> F
     requires some { 1 ≤ length tables.now }
-    requires few { length tables.now ≤ 7 }
+    requires few { length tables.now ≤ 6 }
     requires below { All (All (IsBelow F.MODULUS)) tables.now }
     ensures { (challenges : List ℕ) → AreStepTables F.MODULUS challenges tables.now
-        → length challenges ≤ 7 * length tables.now
+        → length challenges ≤ 8 * length tables.now
         → All (λ u. u.item < 2 ^ length challenges) updates.now
         → F.number result ≡ split_after F.MODULUS challenges (F.number hash) updates.now }
 {

@@ -32,20 +32,25 @@
 //!
 //! # Cost
 //!
-//! No call takes memory: a root is its seat and 8 or 16 bytes, and `up` works in the list that its
-//! caller made. `update_all` has its tables on the stack for one call, 7 KB, and `AugRoot` 14. The
-//! unit of time is one `Field::times`. The bits are those of the index, d is the depth, and a list
-//! has n nodes.
+//! A root is its seat and 8 or 16 bytes, and `up` works in the list that its caller made. Memory is
+//! taken by [`Root::keep_tables`] alone, 2 KiB for eight levels, and by that of [`AugRoot`], 4.
+//! `update_all` without them has its tables on the stack for one call, 12 KiB, and for `AugRoot`
+//! and `SplitRoot` 24. The unit of time is one `Field::times`. The bits are those of the index, d
+//! is the depth, and a list has n nodes.
 //!
 //! | Call | `times` | Beside it |
 //! |---|---|---|
 //! | `new` of each, and what shows its numbers | 0 | |
 //! | `Root::update` | one for each bit that is 1 | d steps, one `of_signed` and one `plus` |
-//! | `Root::update_all` of n, 32 and more | (n + 127) · d / 7 | a few additions for each |
+//! | `keep_tables` of a root | 255 · d / 8 | |
+//! | `keep_tables` of an augmented root | 518 · d / 8 | as many `plus` |
+//! | `Root::update_all` of n with tables | n · d / 8 | a few additions for each |
+//! | `AugRoot::update_all` of n with tables | n · (d / 8 + 1) | n `of_signed` |
+//! | `Root::update_all` of n without, 32 and more | (n + 255) · d / 8 | a few additions for each |
 //! | `absorb` of each | 0 | one `plus` |
 //! | `Root::weight_above` | one for each bit that is 1 | d - level steps |
 //! | `update` of the two others | two for each bit that is 1, and one | d steps, each a `plus` |
-//! | `update_all` of them, of n, 32 and more | (n + 261) · d / 7 | as many `plus`, n `of_signed` |
+//! | `update_all` of them without tables, of n, 32 and more | (n + 518) · d / 8 | n `of_signed` |
 //! | `up` | n / 2 | n / 2 `plus` |
 #![tactic(auto)]
 

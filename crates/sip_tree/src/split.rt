@@ -77,7 +77,7 @@ impl<F: Field, const CAP: usize> SplitRoot<F, CAP> {
 
     /// The root after each of these updates, whatever their sides.
     ///
-    /// One `times` for an update and seven challenges, and 261 for seven challenges, whose table is
+    /// One `times` for an update and eight challenges, and 518 for eight challenges, whose table is
     /// on the stack for this call. A block of less than 32 updates is `update` for each.
     #[inline(never)]
     pub fn update_all(&mut self, updates: &[Update])
@@ -99,7 +99,7 @@ impl<F: Field, const CAP: usize> SplitRoot<F, CAP> {
                 self.update(update.item, update.delta);
             }
         } else {
-            let mut tables = [[Step { scale: 0, shift: 0 }; 128]; 7];
+            let mut tables = [[Step { scale: 0, shift: 0 }; 256]; 6];
             let count = fill_steps(&mut tables, &self.seat);
             let hash = F::of_number(self.hash);
             self.hash = split_hashed(hash, &tables[..count], updates).number();

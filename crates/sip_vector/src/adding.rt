@@ -9,11 +9,11 @@ use sip_field::{Field, loosely_by_tables, of_wide};
 /// The number after these updates, by the tables of all challenges, of which there are N.
 ///
 /// One `loose_times` for an update and a table.
-fn added<F: Field, const N: usize>(value: F, tables: &[[u64; 128]], updates: &[Update]) -> F
+fn added<F: Field, const N: usize>(value: F, tables: &[[u64; 256]], updates: &[Update]) -> F
     requires exact { length tables.now ≡ N }
-    requires few { N ≤ 7 }
+    requires few { N ≤ 6 }
     ensures { (zero : ℕ → ℕ) (challenges : List ℕ) → AreTables F.MODULUS zero challenges tables.now
-        → length challenges ≤ 7 * length tables.now
+        → length challenges ≤ 8 * length tables.now
         → All (λ u. u.item < 2 ^ length challenges) updates.now
         → F.number result ≡ number_after F.MODULUS zero challenges (F.number value) updates.now }
 {
@@ -28,15 +28,15 @@ fn added<F: Field, const N: usize>(value: F, tables: &[[u64; 128]], updates: &[U
 
 /// A number after these updates, whatever their sides, where an entry counts in it by the product
 /// of its index, by the tables of all challenges: the root of the tree, or the multilinear
-/// extension. Table g is that of the seven challenges above level 7·g.
+/// extension. Table g is that of the eight challenges above level 8·g.
 ///
 /// One `loose_times` for an update and a table, and the sum of them is reduced once. For each
 /// number of tables there is a loop of its own, since one that the compiler knows the length of
 /// takes two thirds of the time.
-pub fn added_by_tables<F: Field>(value: F, tables: &[[u64; 128]], updates: &[Update]) -> F
-    requires few { length tables.now ≤ 7 }
+pub fn added_by_tables<F: Field>(value: F, tables: &[[u64; 256]], updates: &[Update]) -> F
+    requires few { length tables.now ≤ 6 }
     ensures { (zero : ℕ → ℕ) (challenges : List ℕ) → AreTables F.MODULUS zero challenges tables.now
-        → length challenges ≤ 7 * length tables.now
+        → length challenges ≤ 8 * length tables.now
         → All (λ u. u.item < 2 ^ length challenges) updates.now
         → F.number result ≡ number_after F.MODULUS zero challenges (F.number value) updates.now }
 {
@@ -47,7 +47,6 @@ pub fn added_by_tables<F: Field>(value: F, tables: &[[u64; 128]], updates: &[Upd
         3 => added::<F, 3>(value, tables, updates),
         4 => added::<F, 4>(value, tables, updates),
         5 => added::<F, 5>(value, tables, updates),
-        6 => added::<F, 6>(value, tables, updates),
-        _ => added::<F, 7>(value, tables, updates),
+        _ => added::<F, 6>(value, tables, updates),
     }
 }

@@ -12,9 +12,10 @@ ghost use Rattle.sip_vector.specs.Limits.{most_depth};
 ghost use Rattle.sip_vector.specs.Streams.{of_side, vector};
 ghost use Rattle.sip_vector.specs.Weights.{numbers_after};
 
-use sip_field::{Field, M61, Seat};
+use sip_field::{Field, M61, OutOfMemory, Seat};
 use sip_mle::Point;
 use sip_vector::{CAP, Side, Update};
+use std::alloc::Global;
 
 /// The extensions of both sides' vectors at the same challenges, which are kept once.
 #[derive(Drop)]
@@ -38,6 +39,15 @@ impl Points {
             first: Point::new(block),
             second: M61::of(0),
         }
+    }
+
+    /// Keeps the tables of the challenges from now on, which both extensions are added to by.
+    pub fn keep_tables(&mut self, alloc: Global) -> Result<(), OutOfMemory>
+        ensures seat { self.new.first.seat ≡ self.old.first.seat }
+        ensures first { self.new.first.value ≡ self.old.first.value }
+        ensures second { self.new.second ≡ self.old.second }
+    {
+        self.first.keep_tables(alloc)
     }
 
     /// Adds updates of one side to its extension.

@@ -10,10 +10,11 @@ ghost use Rattle.sip_verifier.specs.Running.{FitTogether, RunsFor, added_up, blo
 ghost use Rattle.sip_verifier.specs.Running.{same_kind};
 
 use crate::points::Points;
-use sip_field::{M61, Seat};
+use sip_field::{M61, OutOfMemory, Seat};
 use sip_mle::Point;
 use sip_tree::{AugRoot, Root};
 use sip_vector::{CAP, Query, Side, Update};
+use std::alloc::Global;
 
 /// The running numbers of one query, with its challenges: all that is kept of a stream for it.
 #[derive(Drop)]
@@ -59,10 +60,24 @@ impl Running {
         }
     }
 
+    /// Keeps tables of the challenges from now on, by which updates are added: 2 KiB for eight
+    /// levels, and 4 for heavy hitters. The numbers stay as they are, also where there is no memory.
+    pub fn keep_tables(&mut self, alloc: Global) -> Result<(), OutOfMemory>
+        ensures block { block_of self.new ≡ block_of self.old }
+        ensures numbers { numbers_of self.new ≡ numbers_of self.old }
+    {
+        match self {
+            Running::Root(root) => root.keep_tables(alloc),
+            Running::Point(point) => point.keep_tables(alloc),
+            Running::Points(points) => points.keep_tables(alloc),
+            Running::AugRoot(root) => root.keep_tables(alloc),
+        }
+    }
+
     /// Adds updates of one side, in order, which concern the query.
     ///
-    /// An update takes one look-up and one multiplication for each seven levels; their tables are
-    /// made once for the call, on the stack. No memory.
+    /// An update takes one look-up and one multiplication for each eight levels, by the tables that
+    /// are kept. Where none are, they are made once for the call, on the stack. No memory.
     pub fn update_all(&mut self, side: Side, updates: &[Update])
         requires shallow { length (block_of self.old) ≤ most_depth }
         requires items { All (λ u. u.item < 2 ^ length (block_of self.old)) updates.now }

@@ -7,6 +7,6 @@ abbrev pub invariant-loop-group : goal.invariant-loop-group
 invariant-loop-group g l =
     let p = g.F.Field.MODULUS in
     record {
-      long : length l.tables ≡ 7;
-      products : (k : ℕ) → k < l.group → HasProducts p (zero_factor p l.fn.factors) (take 7 (drop (7 * k) l.fn.seat)) (get_or l.tables k []);
+      long : length l.tables ≡ length l.fn.tables;
+      products : (k : ℕ) → k < l.group → HasProducts p (zero_factor p l.fn.factors) (take 8 (drop (8 * k) l.fn.seat)) (get_or l.tables k []);
     }

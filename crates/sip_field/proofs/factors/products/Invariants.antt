@@ -9,7 +9,7 @@ invariant-loop-level g l =
     let p = g.F.Field.MODULUS in
     record {
       count : l.filled ≡ 2 ^ l.level;
-      long : length l.table ≡ 128;
+      long : length l.table ≡ 256;
       products : Filled 0 (λ level e x. x ≡ 8 * bits_product p (zero_factor p l.fn.factors) e (take level (drop l.fn.from l.fn.seat))) l.level l.filled l.table;
     }
 
@@ -18,6 +18,6 @@ abbrev pub invariant-loop-entry : goal.invariant-loop-entry
 invariant-loop-entry g l =
     let p = g.F.Field.MODULUS in
     record {
-      long : length l.table ≡ 128;
+      long : length l.table ≡ 256;
       between : Between 0 (λ level e x. x ≡ 8 * bits_product p (zero_factor p l.fn.factors) e (take level (drop l.fn.from l.fn.seat))) l.level l.filled l.entry l.table;
     }

@@ -8,11 +8,11 @@ use Rattle.sip_subvec.proofs.nodes.summed.Given as goal
 abbrev pub invariant-loop-entry : goal.invariant-loop-entry
 invariant-loop-entry g l =
     let p = g.F.Field.MODULUS in
-    let n = 7 * length l.fn.low in
+    let n = 8 * length l.fn.low in
     record {
       most : l.sums.near < (l.entry-index + 1) * 2 ^ 64;
       is : (challenges : List ℕ) → l.fn.size ≡ 2 ^ length challenges → AreTables p (zero_factor p Tree) (take n challenges) l.fn.low → AreTables p (zero_factor p Tree) (drop n challenges) l.fn.high
-          → length (drop n challenges) ≤ 7 * length l.fn.high
+          → length (drop n challenges) ≤ 8 * length l.fn.high
           → (l.sums.path < 2 ^ length (drop n challenges))
           × ((g.F.Field.number l.sums.sum + l.sums.near * bits_product p (zero_factor p Tree) l.sums.path (drop n challenges)) % p ≡ entries_sum p challenges (take l.entry-index l.fn.entries) % p);
     }

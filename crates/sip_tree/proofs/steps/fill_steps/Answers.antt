@@ -8,9 +8,9 @@ use Rattle.sip_field.proofs.Doubling.{each_set}
 use Rattle.sip_tree.proofs.StepTables.{later_start}
 use Rattle.sip_tree.proofs.steps.fill_steps.Goals as goal
 
--- the tables of so many challenges are seven at the most
-few_tables : (depth left : ℕ) → depth ≤ 49 → left ≡ depth - 1 → 1 + left / 7 ≤ 7
-few_tables depth left few is = omega (arith, few, is)
+-- so many tables are enough
+few_tables : (depth left n : ℕ) → 1 ≤ n → depth ≤ 8 * n → left ≡ depth - 1 → 1 + left / 8 ≤ n
+few_tables depth left n some few is = omega (arith, some, few, is)
 
 pub loop-group-init : goal.loop-group-init
 loop-group-init g c =
@@ -19,9 +19,9 @@ loop-group-init g c =
     let table : List Step = c.level_steps.new.table in
     record {
       some = omega arith;
-      long = length-set tables 0 table ∙ c.told-tables;
+      long = length-set tables 0 table;
       below = All-set (All (IsBelow p)) tables 0 table c.level_steps.ensures.below c.requires.residues;
-      steps = each_set [] (λ j t. HasSteps p (start_of j) (take 7 (drop (7 * j) c.args.seat.now)) t) tables 0 table (omega (arith, c.told-tables))
+      steps = each_set [] (λ j t. HasSteps p (start_of j) (take 8 (drop (8 * j) c.args.seat.now)) t) tables 0 table c.requires.some
           c.level_steps.ensures.steps (λ k none. absurd (let no : ⊥ = omega (arith, none) in no));
     }
 
@@ -32,26 +32,26 @@ loop-group-preserved g c =
     let table : List Step = c.level_steps-in-loop-group.new.table in
     let k : ℕ = c.loop-group.group in
     let within : k < length tables =
-    omega (arith, c.loop-group.invariant.long, c.loop-group-test.true, few_tables _ _ (omega (arith, c.depth.ensures.exact, c.requires.depth)) c.saturating_sub.ensures) in
+    omega (arith, c.loop-group.invariant.long, c.loop-group-test.true, few_tables _ _ _ c.requires.some (omega (arith, c.depth.ensures.exact, c.requires.room)) c.saturating_sub.ensures) in
     record {
       some = omega arith;
       long = length-set tables k table ∙ c.loop-group.invariant.long;
       below = All-set (All (IsBelow p)) tables k table c.level_steps-in-loop-group.ensures.below c.loop-group.invariant.below;
-      steps = each_set [] (λ j t. HasSteps p (start_of j) (take 7 (drop (7 * j) c.args.seat.now)) t) tables k table within
-          (subst (λ s. HasSteps p s (take 7 (drop (7 * k) c.args.seat.now)) table) (sym (later_start k c.loop-group.invariant.some)) c.level_steps-in-loop-group.ensures.steps)
+      steps = each_set [] (λ j t. HasSteps p (start_of j) (take 8 (drop (8 * j) c.args.seat.now)) t) tables k table within
+          (subst (λ s. HasSteps p s (take 8 (drop (8 * k) c.args.seat.now)) table) (sym (later_start k c.loop-group.invariant.some)) c.level_steps-in-loop-group.ensures.steps)
           c.loop-group.invariant.steps;
     }
 
 pub returns-clause-below : goal.returns-clause-below
-returns-clause-below g c = All-take (All (IsBelow g.F.Field.MODULUS)) (1 + c.saturating_sub.result / 7) c.loop-group.tables c.loop-group.invariant.below
+returns-clause-below g c = All-take (All (IsBelow g.F.Field.MODULUS)) (1 + c.saturating_sub.result / 8) c.loop-group.tables c.loop-group.invariant.below
 
 pub returns-clause-tables : goal.returns-clause-tables
 returns-clause-tables g c k low =
     let p : ℕ = g.F.Field.MODULUS in
-    let n : ℕ = 1 + c.saturating_sub.result / 7 in
+    let n : ℕ = 1 + c.saturating_sub.result / 8 in
     let tables : List (List Step) = c.loop-group.tables in
     let long : length (take n tables) ≡ n =
-    length-take-le n tables (omega (arith, c.loop-group.invariant.long, few_tables _ _ (omega (arith, c.depth.ensures.exact, c.requires.depth)) c.saturating_sub.ensures)) in
-    subst (HasSteps p (start_of k) (take 7 (drop (7 * k) c.args.seat.now)))
+    length-take-le n tables (omega (arith, c.loop-group.invariant.long, few_tables _ _ _ c.requires.some (omega (arith, c.depth.ensures.exact, c.requires.room)) c.saturating_sub.ensures)) in
+    subst (HasSteps p (start_of k) (take 8 (drop (8 * k) c.args.seat.now)))
     (sym (get_or-take n tables k [] (omega (arith, long, low))))
     (c.loop-group.invariant.steps k (omega (arith, long, low, c.loop-group-test.false)))

@@ -9,7 +9,7 @@ invariant-loop-group g l =
     let p = g.F.Field.MODULUS in
     record {
       some : 1 ≤ l.group;
-      long : length l.tables ≡ 7;
+      long : length l.tables ≡ length l.fn.tables;
       below : All (All (IsBelow p)) l.tables;
-      steps : (k : ℕ) → k < l.group → HasSteps p (start_of k) (take 7 (drop (7 * k) l.fn.seat)) (get_or l.tables k []);
+      steps : (k : ℕ) → k < l.group → HasSteps p (start_of k) (take 8 (drop (8 * k) l.fn.seat)) (get_or l.tables k []);
     }

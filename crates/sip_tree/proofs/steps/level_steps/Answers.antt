@@ -2,12 +2,12 @@ use Rattle.std.proofs.Common.{◌≡◌, ℕ, suc, List, set, inl, inr, ◌+◌,
 use Rattle.std.proofs.Math.Nat.{pow-suc, mod-lt}
 use Rattle.std.proofs.lemmas.List.{length-set, length-drop, get_or-drop, get_or-set_same}
 use Rattle.std.proofs.lemmas.List.Elements.{All-set, All-get_or}
-use Rattle.sip_field.proofs.Doubling.{begins, ends, first_seven, one_pair, table_room}
+use Rattle.sip_field.proofs.Doubling.{begins, ends, first_eight, one_pair, table_room}
 use Rattle.sip_tree.specs.Steps.{no_step, IsStep, IsBelow}
 use Rattle.sip_tree.specs.declared.steps.Step.{Step}
 use Rattle.sip_tree.proofs.StepTables.{Split, split_by, left_step, right_step}
 use Rattle.sip_tree.proofs.steps.level_steps.Goals as goal
-use Rattle.sip_tree.proofs.steps.level_steps.Goals.{then-left-lt7, else-left-lt7}
+use Rattle.sip_tree.proofs.steps.level_steps.Goals.{then-left-lt8, else-left-lt8}
 
 pub loop-level-init : goal.loop-level-init
 loop-level-init g c =
@@ -34,12 +34,12 @@ loop-entry-init g c = record {
 
 pub bounds-table-filled : goal.bounds-table-filled
 bounds-table-filled g c =
-    let seven : c.loop-level.level < 7 =
-    elim c.if-left-lt7.branch [
-      | then-left-lt7 w ↦ omega (arith, w.levels-is, w.if-left-lt7.true, c.loop-level-test.true)
-      | else-left-lt7 w ↦ omega (arith, w.levels-is, c.loop-level-test.true)
+    let eight : c.loop-level.level < 8 =
+    elim c.if-left-lt8.branch [
+      | then-left-lt8 w ↦ omega (arith, w.levels-is, w.if-left-lt8.true, c.loop-level-test.true)
+      | else-left-lt8 w ↦ omega (arith, w.levels-is, c.loop-level-test.true)
     ] in
-    omega (arith, table_room _ _ c.loop-level.invariant.count seven, c.loop-entry-test.true)
+    omega (arith, table_room _ _ c.loop-level.invariant.count eight, c.loop-entry-test.true)
 
 pub loop-entry-preserved : goal.loop-entry-preserved
 loop-entry-preserved g c =
@@ -54,15 +54,15 @@ loop-entry-preserved g c =
     let start : ℕ = c.args.start in
     let some : 0 < p = omega (arith, g.met.F.Field.at_least) in
     let long : length rs ≡ c.depth.result - c.args.from = length-drop c.args.from seat ∙ ap (λ n. n - c.args.from) (sym c.depth.ensures.exact) in
-    let inside : (level < 7) × (level < length rs) =
-    elim c.if-left-lt7.branch [
-      | then-left-lt7 w ↦ (
-        omega (arith, w.levels-is, w.if-left-lt7.true, c.loop-level-test.true),
-        omega (arith, w.levels-is, w.if-left-lt7.true, c.loop-level-test.true, long),
+    let inside : (level < 8) × (level < length rs) =
+    elim c.if-left-lt8.branch [
+      | then-left-lt8 w ↦ (
+        omega (arith, w.levels-is, w.if-left-lt8.true, c.loop-level-test.true),
+        omega (arith, w.levels-is, w.if-left-lt8.true, c.loop-level-test.true, long),
       )
-      | else-left-lt7 w ↦ (
+      | else-left-lt8 w ↦ (
         omega (arith, w.levels-is, c.loop-level-test.true),
-        omega (arith, w.levels-is, w.if-left-lt7.false, c.loop-level-test.true, long),
+        omega (arith, w.levels-is, w.if-left-lt8.false, c.loop-level-test.true, long),
       )
     ] in
     let within : filled + i < length table =
@@ -115,11 +115,11 @@ returns-clause-steps g c e inside =
     let level : ℕ = c.loop-level.level in
     let long : length rs ≡ c.depth.result - c.args.from =
     length-drop c.args.from c.args.seat.now ∙ ap (λ n. n - c.args.from) (sym c.depth.ensures.exact) in
-    let all : (take level rs ≡ take 7 rs) × (level ≡ length (take 7 rs)) =
-    first_seven rs level (elim c.if-left-lt7.branch [
-      | then-left-lt7 w ↦ inl (omega (arith, long, w.if-left-lt7.true), omega (arith, long, w.levels-is, c.loop-level-test.false, c.loop-level.auto.level-end))
-      | else-left-lt7 w ↦ inr (omega (arith, long, w.if-left-lt7.false), omega (arith, w.levels-is, c.loop-level-test.false, c.loop-level.auto.level-end))
+    let all : (take level rs ≡ take 8 rs) × (level ≡ length (take 8 rs)) =
+    first_eight rs level (elim c.if-left-lt8.branch [
+      | then-left-lt8 w ↦ inl (omega (arith, long, w.if-left-lt8.true), omega (arith, long, w.levels-is, c.loop-level-test.false, c.loop-level.auto.level-end))
+      | else-left-lt8 w ↦ inr (omega (arith, long, w.if-left-lt8.false), omega (arith, w.levels-is, c.loop-level-test.false, c.loop-level.auto.level-end))
     ]) in
-    let count : c.loop-level.filled ≡ 2 ^ length (take 7 rs) = c.loop-level.invariant.count ∙ ap (λ k. 2 ^ k) all.1 in
+    let count : c.loop-level.filled ≡ 2 ^ length (take 8 rs) = c.loop-level.invariant.count ∙ ap (λ k. 2 ^ k) all.1 in
     subst (λ taken. IsStep p c.args.start taken e (get_or c.loop-level.table e no_step)) all.0
     (c.loop-level.invariant.steps e (omega (arith, count, inside)))

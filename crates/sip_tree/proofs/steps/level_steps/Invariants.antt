@@ -10,7 +10,7 @@ invariant-loop-level g l =
     let p = g.F.Field.MODULUS in
     record {
       count : l.filled ≡ 2 ^ l.level;
-      long : length l.table ≡ 128;
+      long : length l.table ≡ 256;
       below : All (IsBelow p) l.table;
       steps : Filled no_step (λ level e s. IsStep p l.fn.start (take level (drop l.fn.from l.fn.seat)) e s) l.level l.filled l.table;
     }
@@ -20,7 +20,7 @@ abbrev pub invariant-loop-entry : goal.invariant-loop-entry
 invariant-loop-entry g l =
     let p = g.F.Field.MODULUS in
     record {
-      long : length l.table ≡ 128;
+      long : length l.table ≡ 256;
       below : All (IsBelow p) l.table;
       between : Between no_step (λ level e s. IsStep p l.fn.start (take level (drop l.fn.from l.fn.seat)) e s) l.level l.filled l.entry l.table;
     }

@@ -11,7 +11,7 @@ invariant-loop-group g l =
       some : 1 ≤ l.group;
       early : l.group ≤ 4 → l.weight + 2 ^ 61 < l.group * 2 ^ 62;
       late : 4 < l.group → l.weight + 7 * 2 ^ 61 < l.group * 2 ^ 62;
-      is : (challenges : List ℕ) → AreStepTables p challenges l.tables → l.fn.path < 2 ^ length (drop 7 challenges) →
-          (l.rest < 2 ^ length (drop (7 * l.group) challenges))
-          × (hash_weight_from p (l.weight % p) l.rest (drop (7 * l.group) challenges) ≡ hash_weight_from p l.fn.hash l.fn.path (drop 7 challenges));
+      is : (challenges : List ℕ) → AreStepTables p challenges l.tables → l.fn.path < 2 ^ length (drop 8 challenges) →
+          (l.rest < 2 ^ length (drop (8 * l.group) challenges))
+          × (hash_weight_from p (l.weight % p) l.rest (drop (8 * l.group) challenges) ≡ hash_weight_from p l.fn.hash l.fn.path (drop 8 challenges));
     }

@@ -10,7 +10,7 @@ invariant-loop-update g l =
     let p = g.F.Field.MODULUS in
     record {
       most : l.sum < (l.update-index + 1) * 2 ^ 64;
-      is : (zero : ℕ → ℕ) (challenges : List ℕ) → AreTables p zero challenges l.tables → length challenges ≤ 7 * length l.tables
+      is : (zero : ℕ → ℕ) (challenges : List ℕ) → AreTables p zero challenges l.tables → length challenges ≤ 8 * length l.tables
           → All (λ u. u.item < 2 ^ length challenges) l.updates
           → l.sum % p ≡ number_after p zero challenges (g.F.Field.number l.fn.value) (take l.update-index l.updates);
     }

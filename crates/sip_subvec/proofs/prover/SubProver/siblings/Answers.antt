@@ -43,7 +43,7 @@ same_items items same = items ∙ ap (λ (v : Vec Entry Global). v.items) same
 its_node : (g : given.Over) (c : goal.Joined-self-eq0 g) (entries : List Entry) (k x : ℕ) → entries ≡ c.self.inside.entries.value.items → k < 2 ^ c.self.inside.levels_left
     → ((challenges : List ℕ) → length challenges ≡ c.len-height.result
     → AreTables g.F.Field.MODULUS (zero_factor g.F.Field.MODULUS Tree) challenges (take c.tables_of-count.result c.tables_of-count.new.tables)
-    → length challenges ≤ 7 * length (take c.tables_of-count.result c.tables_of-count.new.tables) → Rises 0 entries
+    → length challenges ≤ 8 * length (take c.tables_of-count.result c.tables_of-count.new.tables) → Rises 0 entries
     → x ≡ entries_sum g.F.Field.MODULUS challenges (entries_below c.len-height.result k entries) % g.F.Field.MODULUS)
     → x ≡ get_or (level_over g.F.Field.MODULUS (c.self.inside.levels_left + length c.self.inside.challenges.items) c.self.inside.entries.value.items (map g.F.Field.number c.self.inside.challenges.items)) k 0
 its_node g c entries k x same inside ensures =
@@ -55,7 +55,7 @@ its_node g c entries k x same inside ensures =
     let tables = subst (λ xs. AreTables p (zero_factor p Tree) (map g.F.Field.number xs) (take n c.tables_of-count.new.tables)) c.deref.ensures.value c.tables_of-count.ensures.tables in
     let count : length (take n c.tables_of-count.new.tables) ≡ n = length-take-le n c.tables_of-count.new.tables (omega (arith, c.tables_of-count.array_long, c.tables_of-count.ensures.count)) in
     let mapped : length (map g.F.Field.number items) ≡ length items = length-map items g.F.Field.number in
-    let long : length (map g.F.Field.number items) ≤ 7 * length (take n c.tables_of-count.new.tables) =
+    let long : length (map g.F.Field.number items) ≤ 8 * length (take n c.tables_of-count.new.tables) =
     omega (arith, mapped, count, c.tables_of-count.ensures.all, ap length c.deref.ensures.value) in
     let rise : Rises 0 entries = subst (λ xs. Rises 0 xs) (sym same) c.self.invariant.rise in
     node_at p g.F.Field.number es items c.self.inside.levels_left c.len-height.result k x (omega (arith, g.met.F.Field.at_least)) height inside c.self.invariant.rise

@@ -69,8 +69,11 @@ fill_steps-count-requires g c =
     let some : 0 < p = omega (arith, g.met.F.Field.at_least) in (
       search rules,
       (
-        omega (arith, c.requires.depth),
-        All-replicate (All (IsBelow p)) 7 (replicate 128 no_step) (All-replicate (IsBelow p) 128 no_step (some, some)),
+        omega arith,
+        (
+          omega (arith, c.requires.depth),
+          All-replicate (All (IsBelow p)) 6 (replicate 256 no_step) (All-replicate (IsBelow p) 256 no_step (some, some)),
+        ),
       ),
     )
 
@@ -124,9 +127,9 @@ returns-after-loop-update-else-updates-lt-BLOCK-clause-hash g c =
     let seat : List ℕ = c.args.self.now.seat in
     let n : ℕ = c.fill_steps-count.result in
     let long : length (take n c.fill_steps-count.new.tables) ≡ n =
-    length-take-le n c.fill_steps-count.new.tables (omega (arith, c.fill_steps-count.array_long, c.fill_steps-count.ensures.count)) in
+    length-take-le n c.fill_steps-count.new.tables (omega (arith, c.fill_steps-count.ensures.count, c.fill_steps-count.ensures.length)) in
     c.number-self.ensures
-    ∙ c.split_hashed.ensures seat c.fill_steps-count.ensures.tables (omega (arith, long, c.fill_steps-count.ensures.all)) c.requires.items
+    ∙ c.split_hashed.ensures seat c.fill_steps-count.ensures.tables (omega (arith, long, c.fill_steps-count.ensures.exact)) c.requires.items
     ∙ ap (λ h. split_after g.F.Field.MODULUS seat h c.args.updates.now) c.of_number-hash.ensures
 
 pub returns-after-loop-update-else-updates-lt-BLOCK-clause-weight :

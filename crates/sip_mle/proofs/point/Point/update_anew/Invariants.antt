@@ -1,6 +1,6 @@
 use Rattle.std.proofs.Common.{◌≡◌, take}
 use Rattle.sip_mle.specs.Blocks.{point_after}
-use Rattle.sip_mle.proofs.point.Point.update_all.Given as goal
+use Rattle.sip_mle.proofs.point.Point.update_anew.Given as goal
 
 -- the extension is that after the first updates
 abbrev pub invariant-loop-update : goal.invariant-loop-update

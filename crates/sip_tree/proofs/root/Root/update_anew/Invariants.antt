@@ -1,6 +1,6 @@
 use Rattle.std.proofs.Common.{◌≡◌, take}
 use Rattle.sip_tree.specs.Blocks.{root_after}
-use Rattle.sip_tree.proofs.root.Root.update_all.Given as goal
+use Rattle.sip_tree.proofs.root.Root.update_anew.Given as goal
 
 -- the root is that after the first updates
 abbrev pub invariant-loop-update : goal.invariant-loop-update
