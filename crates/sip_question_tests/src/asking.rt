@@ -48,27 +48,20 @@ fn running_of(query: &Query, seat: Seat<M61, CAP>, numbers: &Numbers) -> Option<
     ensures block { IfSome result (λ running. block_of running ≡ seat) }
 {
     match query {
-        Query::Sub { .. } => Some(Running::Root(Root {
-            seat,
-            value: numbers.root.number(),
-        })),
-        Query::Range { .. } | Query::F2 { .. } => Some(Running::Point(Point {
-            seat,
-            value: numbers.extension.number(),
-        })),
+        Query::Sub { .. } => Some(Running::Root(Root::of(seat, numbers.root.number()))),
+        Query::Range { .. } | Query::F2 { .. } => {
+            Some(Running::Point(Point::of(seat, numbers.extension.number())))
+        }
         Query::Inner => Some(Running::Points(Points {
-            first: Point {
-                seat,
-                value: numbers.extension.number(),
-            },
+            first: Point::of(seat, numbers.extension.number()),
             second: numbers.second,
         })),
         Query::Heavy { .. } | Query::Share { .. } if numbers.total <= MOST_TOTAL => {
-            Some(Running::AugRoot(AugRoot {
+            Some(Running::AugRoot(AugRoot::of(
                 seat,
-                hash: numbers.hash.number(),
-                total: i64::from(numbers.total),
-            }))
+                numbers.hash.number(),
+                i64::from(numbers.total),
+            )))
         }
         _ => None,
     }

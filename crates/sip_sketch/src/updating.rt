@@ -114,8 +114,8 @@ impl Sketch {
     ///
     /// The block is split by side once, for all seats. Then an update takes, for each seat that it
     /// concerns, one look-up and one multiplication for each eight levels, by the tables that are
-    /// kept ([`Sketch::keep_tables`]). Where none are, they are made once for a block and a seat, on
-    /// the stack. No memory.
+    /// kept ([`Sketch::keep_tables`]). Where none are, they are made once for a block and a seat,
+    /// on the stack. No memory.
     pub fn update_all(&mut self, updates: &[Update])
         requires most { length updates.now ≤ MOST_UPDATES }
         requires next { MayCome self.old updates.now }

@@ -37,8 +37,8 @@ fn begins_at(at: Option<u64>, records: u64) -> u64
 /// any crash, over the same log grown longer: each record is added once.
 ///
 /// Where a record is not legal, or reading the stream stops, the sketch is stored once more with
-/// what came before. Memory is taken for the sketch with its tables, for its file and for a block of
-/// 512 records, and none for a record.
+/// what came before. Memory is taken for the sketch with its tables, for its file and for a block
+/// of 512 records, and none for a record.
 ///
 /// The first of these endings: `ReadFault` of the sketch or `Busy`; `BadSketch` of part 0, at 0
 /// where there is no file; `BadStart` exactly where more than one part is in or `at` is above the

@@ -164,7 +164,8 @@ fn a_sketch_that_is_cut_off_is_missing_or_whole(rt: HostRuntime) -> Result<(), F
     Ok(())
 }
 
-// Whether a file takes its name only once it has all of these bytes, and the link has no part in it.
+// Whether a file takes its name only once it has all of these bytes, and the link has no part in
+// it.
 pub(crate) fn keeps_only(alloc: Global, talk: &[TalkEvent], file: &[u8]) -> Result<bool, Fail> {
     let mut beside = Vec::new(alloc);
     for event in talk {

@@ -1,6 +1,6 @@
 // Streams that are watched for the sketch of a desk in memory, at depth 2, with a seat for entries
-// and one for sums of side 0 at the challenges of 32 zero bytes: the records of the stream that adds
-// up to (3, 0, 5, 1), as lines of text.
+// and one for sums of side 0 at the challenges of 32 zero bytes: the records of the stream that
+// adds up to (3, 0, 5, 1), as lines of text.
 
 use crate::growing_tests::begun;
 use crate::worked::WATCHED;

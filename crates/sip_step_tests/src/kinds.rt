@@ -27,16 +27,11 @@ fn running_of(query: &Query, seat: Seat<M61, CAP>) -> Option<Running>
     ensures block { IfSome result (λ running. block_of running ≡ seat) }
 {
     match query {
-        Query::Sub { .. } => Some(Running::Root(Root { seat, value: 73 })),
-        Query::Range { .. } | Query::F2 { .. } => Some(Running::Point(Point {
-            seat,
-            value: (1 << 61) - 4,
-        })),
-        Query::Heavy { .. } => Some(Running::AugRoot(AugRoot {
-            seat,
-            hash: 8739,
-            total: 9,
-        })),
+        Query::Sub { .. } => Some(Running::Root(Root::of(seat, 73))),
+        Query::Range { .. } | Query::F2 { .. } => {
+            Some(Running::Point(Point::of(seat, (1 << 61) - 4)))
+        }
+        Query::Heavy { .. } => Some(Running::AugRoot(AugRoot::of(seat, 8739, 9))),
         _ => None,
     }
 }

@@ -42,8 +42,8 @@ module _ (task : Task) (seed : List ℕ) (before now : Option (List TalkEvent)) 
   KeepsHead (Err statuses.OutOfMemory) = (now ≡ before) ⊎ HeadIsCut
   KeepsHead (Err _) = HeadIsKept
 
--- ---- what was received for a query, and for all of them: where the link is that of a desk, nothing
--- was done to its file
+-- ---- what was received for a query, and for all of them: where the link is that of a desk,
+-- nothing was done to its file
 
 module _ (old new before now : Option (List TalkEvent)) where
   -- all was kept that was heard

@@ -61,7 +61,8 @@ impl Running {
     }
 
     /// Keeps tables of the challenges from now on, by which updates are added: 2 KiB for eight
-    /// levels, and 4 for heavy hitters. The numbers stay as they are, also where there is no memory.
+    /// levels, and 4 for heavy hitters. The numbers stay as they are, also where there is no
+    /// memory.
     pub fn keep_tables(&mut self, alloc: Global) -> Result<(), OutOfMemory>
         ensures block { block_of self.new ≡ block_of self.old }
         ensures numbers { numbers_of self.new ≡ numbers_of self.old }

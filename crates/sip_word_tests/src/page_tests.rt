@@ -69,8 +69,8 @@ fn check_examples(rt: &impl Abort, alloc: Global, examples: &[&str]) -> Result<(
     Ok(())
 }
 
-// The call that fails, of one byte each, how that ends and what was written of a page of four bytes:
-// one that is not written whole is a fault.
+// The call that fails, of one byte each, how that ends and what was written of a page of four
+// bytes: one that is not written whole is a fault.
 type Failing<'a> = (u64, Status, &'a str);
 
 const FAULT: Status = Status::WriteFault { port: Port::Report };
