@@ -4,21 +4,25 @@ ghost use Rattle.std.specs.Prelude.{◌≡◌, ℕ, ◌+◌, ◌-◌, ◌*◌, �
 ghost use Rattle.std.specs.Prelude.{◌||◌, not, true, false, nat_lt, nat_le, nat_abs, pos, ◌≤ℤ◌};
 ghost use Rattle.std.specs.Prelude.{slice_index, List, [], ◌∷◌, ◌++◌, length, drop, is_err, IfOk};
 ghost use Rattle.std.specs.List.{list_all};
+ghost use Rattle.sip_field.specs.Residue.{residue};
 ghost use Rattle.sip_replies.specs.Rising.{is_above};
+ghost use Rattle.sip_heavy.specs.declared.form.LeafForm.TheVariants as forms;
 ghost use Rattle.sip_heavy.specs.AcceptsHeavy.{HeavyQuestion, are_pairs, end_test, is_empty};
 ghost use Rattle.sip_heavy.specs.AcceptsHeavy.{leaf_node, merged, nodes_above, pair_counts};
 ghost use Rattle.sip_heavy.specs.AcceptsHeavy.{top_test};
 ghost use Rattle.sip_heavy.specs.Checking.{Advances, AnswersAs, Begun, GivenNodes, HasTaken, Kept};
 ghost use Rattle.sip_heavy.specs.Checking.{asked_of, begins_with, folded, keeping, node_test};
+ghost use Rattle.sip_heavy.specs.Protocol.{are_counts, leaf_place};
 ghost use Rattle.sip_heavy.specs.Checking.{Takes, nothing, passing, passing_all, with_node};
 
+use crate::form::LeafForm;
 use crate::level::{are_heavy, are_pairs, are_within, fold_pairs, move_below, put_heavy};
 use crate::space::HeavySpace;
 use sip_field::Field;
 use sip_replies::is_above;
 use sip_tree::AugRoot;
 use sip_vector::Entry;
-use sip_wire::{Node, Reason};
+use sip_wire::{Node, Place, Reason};
 use std::marker::Model;
 
 /// The check of the replies to one query for heavy hitters: the entries of at least a threshold.
@@ -32,6 +36,7 @@ use std::marker::Model;
 /// `reveal`, each `node`, and `level_end`; at last `finish`. A refusal spends the check.
 #[derive(Drop)]
 pub struct HeavyCheck<F: Field, const CAP: usize> {
+    form: LeafForm,
     at_least: u64,
     // The side's total.
     total: u64,
@@ -82,6 +87,7 @@ impl<F: Field, const CAP: usize> HeavyCheck<F, CAP> {
         requires total { pos at_least ≤ℤ root.now.total }
         requires room { 2 * (nat_abs root.now.total / at_least) ≤ space.nodes }
         ensures taken { let asked : HeavyQuestion = record {
+          form = forms.Count;
           depth = length root.now.seat;
           at_least = at_least;
           total = nat_abs root.now.total;
@@ -103,6 +109,7 @@ impl<F: Field, const CAP: usize> HeavyCheck<F, CAP> {
         requires small { total < 2 ^ 61 }
         requires room { 2 * (total / at_least) ≤ space.nodes }
         ensures taken { let asked : HeavyQuestion = record {
+          form = forms.Count;
           depth = length root.now.seat;
           at_least = at_least;
           total = total;
@@ -120,6 +127,7 @@ impl<F: Field, const CAP: usize> HeavyCheck<F, CAP> {
         level.clear();
         found.clear();
         HeavyCheck {
+            form: LeafForm::Count,
             at_least,
             total,
             most: 2 * (total / at_least) as usize,
@@ -152,6 +160,30 @@ impl<F: Field, const CAP: usize> HeavyCheck<F, CAP> {
             index: item,
             hash: count,
             count,
+        });
+        self.spent = taken.is_err();
+        taken
+    }
+
+    /// Takes a leaf of reply 0 that has a value and a weight: the reasons are those of `leaf`.
+    ///
+    /// No `times`, and constant time.
+    pub fn mark(&mut self, item: u64, value: i64, weight: u64) -> Result<(), Reason>
+        requires unspent { self.old.spent ≡ false }
+        requires lowest { self.old.level ≡ 0 }
+        requires small { weight < F.MODULUS }
+        ensures answers { Takes F.MODULUS self.old (record {
+          index = item;
+          hash = residue F.MODULUS value;
+          count = weight;
+        } ∷ []) self.new result }
+        ensures advances { Advances self.old self.new 0 0 }
+        ensures spent { self.new.spent ≡ is_err result }
+    {
+        let taken = self.take(Node {
+            index: item,
+            hash: F::of_signed(value).number(),
+            count: weight,
         });
         self.spent = taken.is_err();
         taken
@@ -278,6 +310,36 @@ impl<F: Field, const CAP: usize> HeavyCheck<F, CAP> {
         ensures { result ≡ nat_le self.now.at_least self.now.total }
     {
         self.total >= self.at_least
+    }
+
+    // Where leaves stand.
+    pub(crate) fn leaf_place(&self) -> Place
+        ensures { result ≡ leaf_place self.now.form }
+    {
+        match self.form {
+            LeafForm::Count => Place::Leaves,
+            LeafForm::Mark => Place::Marks,
+        }
+    }
+
+    // Whether counts come next.
+    pub(crate) fn awaits_counts(&self) -> bool
+        ensures { result ≡ (are_counts self.now.form && (self.now.level == 0)) }
+    {
+        match self.form {
+            LeafForm::Count => self.level == 0,
+            LeafForm::Mark => false,
+        }
+    }
+
+    // Whether marks come next.
+    pub(crate) fn awaits_marks(&self) -> bool
+        ensures { result ≡ (not (are_counts self.now.form) && (self.now.level == 0)) }
+    {
+        match self.form {
+            LeafForm::Count => false,
+            LeafForm::Mark => self.level == 0,
+        }
     }
 
     // Whether the nodes that come next are leaves.
@@ -413,11 +475,11 @@ impl<F: Field, const CAP: usize> HeavyCheck<F, CAP> {
 
     // Keeps the heavy leaves, at the end of the lowest level.
     fn keep_heavy(&mut self)
-        ensures { self.new ≡ keeping self.old }
+        ensures { self.new ≡ keeping F.MODULUS self.old }
     {
         if self.level == 0 {
             self.found.clear();
-            put_heavy(&self.nodes, self.at_least, &mut self.found);
+            put_heavy::<F>(&self.nodes, self.form, self.at_least, &mut self.found);
         }
     }
 
