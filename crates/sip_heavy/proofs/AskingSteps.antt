@@ -262,7 +262,7 @@ pub nodes_step_is : (p : ℕ) (q : HeavyQuestion) (s : HeavyState) (c : Kept) (v
 nodes_step_is p q s c v level at = let here : (s.level == 0) ≡ false = ap (λ j. j == 0) (sym level) ∙ at in rw here refl
 
 -- a step of a message is that of its frame
-pub of_message : (p : ℕ) (q : HeavyQuestion) (s : HeavyState) (m n : Message) (Stands : HeavyState → Type 0) (given : Result More Reason) (r : Result (More × HeavyState) Reason) → m ≡ n → heavy_step p q s n ≡ r → Steps r Stands given → Steps (heavy_step q s m) Stands given
+pub of_message : (p : ℕ) (q : HeavyQuestion) (s : HeavyState) (m n : Message) (Stands : HeavyState → Type 0) (given : Result More Reason) (r : Result (More × HeavyState) Reason) → m ≡ n → heavy_step p q s n ≡ r → Steps r Stands given → Steps (heavy_step p q s m) Stands given
 of_message p q s m n Stands given r same is steps = subst (λ k. Steps (heavy_step p q s k) Stands given) (sym same) (subst (λ t. Steps t Stands given) (sym is) steps)
 
 pub length_marks : (p : ℕ) (ms : List Mark) → length (mark_nodes p ms) ≡ length ms

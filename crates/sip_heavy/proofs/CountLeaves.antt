@@ -1,5 +1,5 @@
 -- Where no number is negative, leaves that count the numbers stand for them.
-use Rattle.std.proofs.Common.{◌≡◌, ℕ, ◌%◌, ◌<◌, ◌≤◌, ◌^◌, true, eqb, ℤ, pos, negsuc, ◌≤ℤ◌, nat_abs, List, [], ◌∷◌, length, map, refl, ap, sym, subst, ◌∙◌, arith}
+use Rattle.std.proofs.Common.{◌≡◌, ℕ, ◌%◌, ◌<◌, ◌^◌, eqb, ℤ, pos, negsuc, ◌≤ℤ◌, nat_abs, List, [], ◌∷◌, length, map, refl, ap, ◌∙◌, arith}
 use Rattle.std.specs.List.{All, AllByRecursion}
 use Rattle.std.proofs.lemmas.Int.{ints}
 use Rattle.std.proofs.lemmas.Bool.{and_parts, eqb-true}
@@ -7,11 +7,9 @@ use Rattle.std.proofs.lemmas.List.{length-map}
 use Rattle.std.proofs.lemmas.List.Elements.{recursion_from_All}
 use Rattle.sip_vector.specs.Streams.{int_sum}
 use Rattle.sip_vector.specs.Trees.{Counted, leaf}
-use Rattle.sip_wire.specs.declared.message.Node.{Node}
 use Rattle.sip_heavy.specs.declared.form.LeafForm.TheVariants as forms
-use Rattle.sip_heavy.specs.Counting.{LeafStands, LeavesStand}
+use Rattle.sip_heavy.specs.Counting.{LeavesStand}
 use Rattle.sip_heavy.specs.Protocol.{count_of}
-use Rattle.sip_heavy.specs.TrueNodes.{is_spot}
 use Rattle.sip_heavy.proofs.TrueLevels.{count_is_sum, sum_of, sum_of_counts}
 
 abbrev pub count_leaves : ℕ → List ℤ → List Counted

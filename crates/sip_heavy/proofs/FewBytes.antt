@@ -1,12 +1,10 @@
 -- A strategy of bytes has wrong entries accepted at few vectors of challenges, whatever leaves have.
-use Rattle.std.proofs.Common.{◌≡◌, ◌≢◌, ℕ, suc, ◌+◌, ◌-◌, ◌*◌, ◌<◌, ◌≤◌, ◌^◌, Bool, true, false, ◌&&◌, not, leb, Option, Some, None, Result, Ok, Err, is_ok, List, [], ◌∷◌, length, map, take, ℤ, pos, negsuc, ◌≤ℤ◌, ◌+ℤ◌, nat_abs, int_le, All, refl, ap, sym, subst, ◌∙◌, arith, inl, inr}
+use Rattle.std.proofs.Common.{◌≡◌, ◌≢◌, ℕ, suc, ◌+◌, ◌-◌, ◌*◌, ◌<◌, ◌≤◌, ◌^◌, Bool, true, false, ◌&&◌, not, Option, Some, None, Result, Ok, Err, is_ok, List, [], ◌∷◌, length, map, take, ℤ, pos, ◌≤ℤ◌, ◌+ℤ◌, int_le, refl, ap, sym, subst, ◌∙◌, arith, inl, inr}
 use Rattle.std.specs.Prelude.{◌==◌, nat_lt, if◌then◌else◌, filter}
-use Rattle.std.specs.List.{AllByRecursion, enumerate_from}
+use Rattle.std.specs.List.{enumerate_from}
 use Rattle.std.specs.Cmp.Lexicographic.{pointwise}
 use Rattle.std.proofs.Math.Nat.{div-eq_of_lt}
-use Rattle.std.proofs.lemmas.Int.{ints}
 use Rattle.std.proofs.lemmas.Bool.{cases_Bool, and_parts, and_from, eq-eqb, leb-false, leb-true, not-true, not_from_false, both_ways, false_from_ne_true}
-use Rattle.std.proofs.lemmas.List.Elements.{recursion_from_All}
 use Rattle.sip_field.specs.Prime.{IsPrime}
 use Rattle.sip_counts.specs.Counts.{counted}
 use Rattle.sip_counts.specs.Strategies.{Strategy, replies, before, all_there, is_wrong, takes_wrong}

@@ -1,5 +1,5 @@
 -- Marks whose values are within their weights stand for the values.
-use Rattle.std.proofs.Common.{◌≡◌, ℕ, suc, ◌+◌, ◌-◌, ◌/◌, ◌%◌, ◌<◌, ◌≤◌, ◌^◌, true, false, eqb, leb, ℤ, pos, negsuc, ◌≤ℤ◌, ◌-ℤ◌, nat_abs, List, [], ◌∷◌, length, map, All, refl, ap, sym, subst, ◌∙◌, arith}
+use Rattle.std.proofs.Common.{◌≡◌, ℕ, suc, ◌-◌, ◌/◌, ◌%◌, ◌<◌, ◌≤◌, true, false, eqb, leb, ℤ, pos, negsuc, ◌≤ℤ◌, ◌-ℤ◌, nat_abs, List, [], ◌∷◌, length, map, refl, ap, ◌∙◌, arith}
 use Rattle.std.specs.List.{AllByRecursion, zip}
 use Rattle.std.proofs.Math.Nat.{mod-eq_of_lt}
 use Rattle.std.proofs.lemmas.Int.{ints}
@@ -10,7 +10,6 @@ use Rattle.sip_vector.specs.Splits.{split_leaf}
 use Rattle.sip_vector.specs.Streams.{int_sum}
 use Rattle.sip_vector.specs.Trees.{Counted}
 use Rattle.sip_vector.proofs.TreeResidues.{residue_below}
-use Rattle.sip_wire.specs.declared.message.Node.{Node}
 use Rattle.sip_heavy.specs.declared.form.LeafForm.TheVariants as forms
 use Rattle.sip_heavy.specs.AcceptsHeavy.{signed}
 use Rattle.sip_heavy.specs.Counting.{LeafStands, LeavesStand, IsWeighed, AreWeighed}

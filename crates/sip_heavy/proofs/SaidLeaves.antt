@@ -1,15 +1,15 @@
 -- Leaves that are right, with one at each heavy number, say the heavy numbers.
-use Rattle.std.proofs.Common.{◌≡◌, ℕ, suc, ◌+◌, ◌%◌, ◌<◌, ◌≤◌, true, false, eqb, leb, ltb, ℤ, pos, negsuc, ◌≤ℤ◌, nat_abs, int_le, List, [], ◌∷◌, length, get_or, refl, ap, sym, subst, ◌∙◌, arith, inl, inr, add-one}
+use Rattle.std.proofs.Common.{◌≡◌, ℕ, suc, ◌+◌, ◌<◌, ◌≤◌, true, false, eqb, leb, ltb, ℤ, pos, negsuc, ◌≤ℤ◌, nat_abs, int_le, List, [], ◌∷◌, length, refl, ap, sym, subst, ◌∙◌, arith, inl, inr, add-one}
 use Rattle.std.specs.Prelude.{filter, map, if◌then◌else◌}
 use Rattle.std.specs.List.{list_all, enumerate_from}
 use Rattle.std.proofs.lemmas.Int.{ints}
-use Rattle.std.proofs.lemmas.Bool.{cases_Bool, cases_eq, and_parts, and_from, eqb-true, ne_eqb, lt-ltb, le-leb, leb-true, both_ways}
+use Rattle.std.proofs.lemmas.Bool.{cases_Bool, cases_eq, and_parts, and_from, ne_eqb, lt-ltb, le-leb, leb-true, both_ways}
 use Rattle.sip_vector.specs.declared.update.Entry.{Entry}
-use Rattle.sip_vector.specs.Trees.{Counted, leaf}
+use Rattle.sip_vector.specs.Trees.{Counted}
 use Rattle.sip_wire.specs.declared.message.Node.{Node}
 use Rattle.sip_heavy.specs.declared.form.LeafForm.{LeafForm}
 use Rattle.sip_heavy.specs.AcceptsHeavy.{heavy_entries, value_of}
-use Rattle.sip_heavy.specs.Counting.{LeafStands, LeavesStand}
+use Rattle.sip_heavy.specs.Counting.{LeavesStand}
 use Rattle.sip_heavy.specs.Honest.{heavy_of}
 use Rattle.sip_heavy.specs.Rising.{Rises}
 use Rattle.sip_heavy.specs.TrueNodes.{Spot, is_spot, are_true}

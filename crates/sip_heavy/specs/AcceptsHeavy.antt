@@ -24,6 +24,11 @@ pub record HeavyQuestion : Type 0 where
   pub at_least : ℕ
   pub total : ℕ
 
+-- the query for the entries of at least t, by leaves whose counts have this sum
+abbrev pub asking : LeafForm → ℕ → ℕ → ℕ → HeavyQuestion
+asking form depth t total =
+    record { form = form; depth = depth; at_least = t; total = total }
+
 -- the greatest number of nodes of a level, 2 * floor(n / T)
 abbrev pub most_nodes : HeavyQuestion → ℕ
 most_nodes q = 2 * (q.total / q.at_least)

@@ -1,7 +1,7 @@
 -- How many challenges a wrong list of heavy entries can be accepted at: what is counted, and what a
 -- call promises of it.
-use Rattle.std.specs.Prelude.{◌≡◌, ℕ, ◌-◌, ◌*◌, ◌/◌, ◌≤◌, Bool, true, ℤ, pos, ◌≤ℤ◌, nat_abs, List, []}
-use Rattle.std.specs.Prelude.{◌∷◌, take, fold, All, slice_index_or, Option, Result, Ok, Err}
+use Rattle.std.specs.Prelude.{◌≡◌, ℕ, ◌-◌, ◌*◌, ◌/◌, ◌≤◌, Bool, true, ℤ, pos, ◌≤ℤ◌, nat_abs, List}
+use Rattle.std.specs.Prelude.{[], ◌∷◌, take, fold, All, slice_index_or, Option, Result, Ok, Err}
 use Rattle.std.specs.List.{zip}
 use Rattle.std.specs.Cmp.Lexicographic.{pointwise}
 use Rattle.sip_field.specs.Moduli.{m61_modulus}
@@ -18,7 +18,8 @@ use Rattle.sip_wire.specs.declared.message.Node.{Node}
 use Rattle.sip_wire.specs.declared.version.Version.{Version}
 use Rattle.sip_heavy.specs.declared.form.LeafForm.{LeafForm}
 use Rattle.sip_heavy.specs.declared.form.LeafForm.TheVariants as forms
-use Rattle.sip_heavy.specs.AcceptsHeavy.{HeavyQuestion, accepts, heavy_entries, leaves_of, value_of}
+use Rattle.sip_heavy.specs.AcceptsHeavy.{HeavyQuestion, accepts, asking, heavy_entries}
+use Rattle.sip_heavy.specs.AcceptsHeavy.{leaves_of, value_of}
 use Rattle.sip_heavy.specs.TrueNodes.{is_spot}
 use Rattle.sip_heavy.specs.Honest.{heavy_of}
 use Rattle.sip_heavy.specs.Protocol.{HeavyState, above_asked, count_of, heavy_asked}
@@ -28,12 +29,7 @@ use Rattle.sip_heavy.specs.Protocol.{heavy_protocol, heavy_rules}
 
 -- the query for the entries of at least t, where leaves have this, with these counts
 abbrev pub asking_for : LeafForm → ℕ → ℕ → List ℤ → HeavyQuestion
-asking_for form depth t counts = record {
-  form = form;
-  depth = depth;
-  at_least = t;
-  total = count_of (int_sum counts);
-}
+asking_for form depth t counts = asking form depth t (count_of (int_sum counts))
 
 -- the query for the entries of at least t of these numbers, of which there are 2 ^ depth
 abbrev pub asked_over : ℕ → ℕ → List ℤ → HeavyQuestion

@@ -1,8 +1,8 @@
 -- The replies to a query for heavy hitters as a protocol of the general talk.
 --
--- Reply 0 is any number of Leaves frames and a LevelEnd frame, or of Marks frames where a leaf has a
--- value and a weight; each later reply is any number of Nodes frames and a LevelEnd frame. Where the
--- sum of all counts is below the threshold nothing is asked, and the answer is empty.
+-- Reply 0 is any number of Leaves frames and a LevelEnd frame, or of Marks frames where a leaf has
+-- a value and a weight; each later reply is any number of Nodes frames and a LevelEnd frame. Where
+-- the sum of all counts is below the threshold nothing is asked, and the answer is empty.
 use Rattle.std.specs.Prelude.{ℕ, ◌+◌, ◌==◌, ℤ, pos, negsuc, Bool, true, false, not, ◌&&◌, nat_le}
 use Rattle.std.specs.Prelude.{Some, None, List, [], map, Result, Ok, Err, if◌then◌else◌}
 use Rattle.sip_field.specs.Residue.{residue}
@@ -23,8 +23,8 @@ use Rattle.sip_replies.specs.declared.check.More.TheVariants as mores
 use Rattle.sip_replies.specs.Protocols.{Rules, Protocol}
 use Rattle.sip_heavy.specs.declared.form.LeafForm.{LeafForm}
 use Rattle.sip_heavy.specs.declared.form.LeafForm.TheVariants as forms
-use Rattle.sip_heavy.specs.AcceptsHeavy.{HeavyQuestion, leaf_node, merged, nodes_above, with_nodes}
-use Rattle.sip_heavy.specs.AcceptsHeavy.{end_test, top_test, heavy_entries}
+use Rattle.sip_heavy.specs.AcceptsHeavy.{HeavyQuestion, asking, leaf_node, merged, nodes_above}
+use Rattle.sip_heavy.specs.AcceptsHeavy.{with_nodes, end_test, top_test, heavy_entries}
 
 -- ---- the rules
 
@@ -132,12 +132,7 @@ heavy_asked version p hash total depth at_least = record {
   version = version;
   modulus = p;
   root = hash;
-  query = record {
-    form = forms.Count;
-    depth = depth;
-    at_least = at_least;
-    total = count_of total;
-  };
+  query = asking forms.Count depth at_least (count_of total);
 }
 
 -- the same of any stream, for a side with this root of its split tree
@@ -146,12 +141,7 @@ above_asked version p hash weight depth at_least = record {
   version = version;
   modulus = p;
   root = hash;
-  query = record {
-    form = forms.Mark;
-    depth = depth;
-    at_least = at_least;
-    total = weight;
-  };
+  query = asking forms.Mark depth at_least weight;
 }
 
 -- the total reaches the threshold: else nothing is asked

@@ -3,8 +3,8 @@
 #![tactic(auto, unfolding(crate::specs::AcceptsHeavy::verdict, crate::specs::AcceptsHeavy::known_after, sip_counts::specs::Counts::sum_below, sip_counts::specs::Counts::count_below, sip_counts::specs::Counts::counted_from, sip_counts::specs::Counts::counted, sip_counts::specs::Strategies::takes_wrong))]
 
 ghost use Rattle.std.specs.Prelude.{◌≡◌, ◌↔◌, ℕ, ◌*◌, ◌-◌, ◌^◌, ◌<◌, ◌≤◌, ◌≤ℤ◌, true, false};
-ghost use Rattle.std.specs.Prelude.{nat_lt, ℤ, pos, negsuc, nat_abs, Option, Some, List, [], ◌∷◌, length};
-ghost use Rattle.std.specs.Prelude.{All};
+ghost use Rattle.std.specs.Prelude.{nat_lt, ℤ, pos, negsuc, nat_abs, Option, Some, List, [], ◌∷◌};
+ghost use Rattle.std.specs.Prelude.{length, All};
 ghost use Rattle.std.specs.List.{list_all};
 ghost use Rattle.sip_field.specs.Moduli.{m61_modulus};
 ghost use Rattle.sip_field.specs.Prime.{IsPrime};

@@ -190,7 +190,8 @@ fn give_marks(check: &mut HeavyCheck<M61, CAP>, rows: &[Mark]) -> Result<(), Rea
     requires unspent { check.old.spent ≡ false }
     requires lowest { check.old.level ≡ 0 }
     requires small { All (λ m. m.weight < m61_modulus) rows.now }
-    ensures answers { Takes m61_modulus check.old (mark_nodes m61_modulus rows.now) check.new result }
+    ensures answers { Takes m61_modulus check.old (mark_nodes m61_modulus rows.now)
+        check.new result }
     ensures advances { Advances check.old check.new 0 0 }
     ensures spent { check.new.spent ≡ is_err result }
 {

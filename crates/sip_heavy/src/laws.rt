@@ -108,7 +108,8 @@ pub fn bytes_come_to_what_nodes_do()
         → reaches asked.query ≡ true → AreFrames asked.version asked.query.form 0 replies
         → length replies ≡ length challenges
         → accepts (heavy_protocol asked) challenges (stated_replies asked.version replies)
-        ≡ heavy.accepts asked.modulus asked.query asked.root challenges (stated_nodes asked.modulus replies) }
+        ≡ heavy.accepts asked.modulus asked.query asked.root challenges
+        (stated_nodes asked.modulus replies) }
 {}
 
 /// Accepted replies are the bytes of frames of nodes, by level, with the end of a level behind

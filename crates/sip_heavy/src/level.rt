@@ -126,7 +126,8 @@ pub(crate) fn put_heavy<F: Field>(
 )
     requires room { vec_len found.old + length nodes.now ≤ vec_capacity found.old }
     requires small { All (λ x. x.count < 2 ^ 61) nodes.now }
-    ensures found { found.new.items ≡ found.old.items ++ heavy.heavy_entries F.MODULUS form at_least nodes.now }
+    ensures found { found.new.items
+        ≡ found.old.items ++ heavy.heavy_entries F.MODULUS form at_least nodes.now }
     ensures capacity { vec_capacity found.old ≤ vec_capacity found.new }
 {
     for node in nodes {

@@ -1,4 +1,4 @@
-use Rattle.std.proofs.Common.{◌≡◌, List, All, ap, sym, subst, refl}
+use Rattle.std.proofs.Common.{List, All, ap, sym, subst, refl}
 use Rattle.std.specs.Prelude.{IsTrue, ◌<◌, ◌-◌, ◌+◌, length}
 use Rattle.sip_field.specs.Moduli.{m61_modulus}
 use Rattle.sip_wire.specs.declared.message.Leaf.{Leaf}
@@ -40,7 +40,7 @@ returns-in_err-give_marks-in-Marks-clause-took c asked s stands =
     let held = stands_inside asked s check c.args.self.now c.args.places.now stands c.requires.phase.same c.self.view_is in
     let takes = subst (λ (ls : List Mark). Takes m61_modulus check (mark_nodes m61_modulus ls) c.give_marks.new.check c.give_marks.result) c.deref-in-Marks.ensures.0 c.give_marks.ensures.answers in
     of_message asked.modulus asked.query s c.args.message.now (messages.Marks c.in-Marks.rows) _ _ _ c.in-Marks.is (marks_step_is asked.modulus asked.query s check c.in-Marks.rows held.0.field (ap (λ (a : HeavyQuestion). a.form) held.0.taken.asked) held.0.level (sym c.if-not-awaits_marks.ensures))
-    (nodes_refused asked s check c.give_marks.new.check c.args.places.now held.0 held.1 (mark_nodes m61_modulus c.in-Marks.rows.items) c.give_marks.result takes _ c.in_err-give_marks-in-Marks.field-0.0 _ c.in_err-give_marks-in-Marks.was c.from_residual.ensures.1)
+    (nodes_refused asked s check c.give_marks.new.check c.args.places.now held.0 held.1 (mark_nodes m61_modulus c.in-Marks.rows.items) c.give_marks.result takes _ c.in_err-give_marks-in-Marks.field-0.0 _ c.in_err-give_marks-in-Marks.was c.from_residual-in_err-give_marks-in-Marks.ensures.1)
 
 pub give_nodes-requires-clause-small : goal.give_nodes-requires-clause-small
 give_nodes-requires-clause-small c =
@@ -127,14 +127,14 @@ returns-in_ok-give_nodes-in-Nodes-clause-smaller c due =
     subst (λ (k : Kept). c.give_nodes.new.check.most - (length c.give_nodes.new.check.nodes + (length c.give_nodes.new.check.known - c.give_nodes.new.check.passed)) < k.most - (length k.nodes + (length k.known - k.passed))) c.self.view_is
     (room_falls stood.0 stood.1 check c.give_nodes.new.check c.args.places.now held.0 held.1 c.in-Nodes.rows.items c.give_nodes.result takes _ c.in_ok-give_nodes-in-Nodes.was some)
 
-pub returns-then-not-is_lowest-2-clause-took : goal.returns-then-not-is_lowest-2-clause-took
-returns-then-not-is_lowest-2-clause-took c asked s stands =
+pub returns-then-not-is_lowest-clause-took : goal.returns-then-not-is_lowest-clause-took
+returns-then-not-is_lowest-clause-took c asked s stands =
     let check : Kept = c.self.inside.check in
     let held = stands_inside asked s check c.args.self.now c.args.places.now stands c.requires.phase.same c.self.view_is in
     let answers = c.level_end.ensures.answers asked.query asked.root check.challenges held.0.given held.0.taken in
     let ok = c.in_ok-level_end-in-LevelEnd.was in
     let known = rw ok at (c.level_end.ensures.known asked.query asked.root check.challenges held.0.given held.0.taken) in
-    let found = found_stays asked s check c.level_end.new.self c.args.places.now held.0 held.1 c.level_end.result answers _ ok (sym c.if-not-is_lowest-2.ensures) in
+    let found = found_stays asked s check c.level_end.new.self c.args.places.now held.0 held.1 c.level_end.result answers _ ok (sym c.if-not-is_lowest.ensures) in
     of_message asked.modulus asked.query s c.args.message.now messages.LevelEnd _ _ _ c.in-LevelEnd.is refl
     (end_taken asked s check c.level_end.new.self c.args.places.now held.0 held.1 c.level_end.result answers _ ok c.args.places.now (rw ok at c.level_end.ensures.advances) (rw ok at c.level_end.ensures.spent) known (rw found held.0.shown) refl)
 
@@ -149,8 +149,8 @@ write_found-requires c =
       room = rw c.found.ensures.found (found_fits stood.0 stood.1 check c.level_end.new.self c.args.places.now held.0 held.1 c.level_end.result answers _ ok c.found.ensures.few);
     }
 
-pub returns-else-not-is_lowest-2-clause-took : goal.returns-else-not-is_lowest-2-clause-took
-returns-else-not-is_lowest-2-clause-took c asked s stands =
+pub returns-else-not-is_lowest-clause-took : goal.returns-else-not-is_lowest-clause-took
+returns-else-not-is_lowest-clause-took c asked s stands =
     let check : Kept = c.self.inside.check in
     let held = stands_inside asked s check c.args.self.now c.args.places.now stands c.requires.phase.same c.self.view_is in
     let answers = c.level_end.ensures.answers asked.query asked.root check.challenges held.0.given held.0.taken in
