@@ -61,7 +61,7 @@ fn run(
     let first = MemorySource::new(b"0 0 3\n0 1 5\n".to_vec(alloc)?, 5, Vec::new(alloc));
     let second = MemorySource::new(vec![in alloc; byte; 32]?, 5, Vec::new(alloc));
     let report = MemorySink::new(alloc, 10_000, Vec::new(alloc));
-    Ok(run_over(alloc, task, links, (first, second), report))
+    Ok(run_over(alloc, task, links, first, second, report))
 }
 
 // How a run over a seed of 32 such bytes ends, and whether it reports these lines.

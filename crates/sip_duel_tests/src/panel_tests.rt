@@ -189,7 +189,8 @@ pub(crate) fn run_over(
     alloc: Global,
     task: &Task,
     links: &mut Vec<HelperLink>,
-    (mut first, mut second): (MemorySource, MemorySource),
+    mut first: MemorySource,
+    mut second: MemorySource,
     mut report: MemorySink,
 ) -> (Status, MemorySink)
     requires done { CanBeDone task.now }
@@ -227,7 +228,7 @@ pub(crate) fn run(
     let fails = ports.second_fails.to_vec(alloc)?;
     let second = MemorySource::new(vec![in alloc; 0; ports.seed]?, 5, fails);
     let report = MemorySink::new(alloc, 10_000, ports.report_fails.to_vec(alloc)?);
-    Ok(run_over(alloc, task, links, (first, second), report))
+    Ok(run_over(alloc, task, links, first, second, report))
 }
 
 fn check(rt: &impl Abort, alloc: Global, row: &Row) -> Result<(), Fail> {

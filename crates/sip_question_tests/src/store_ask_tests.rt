@@ -3,7 +3,7 @@
 ghost use Rattle.std.specs.Prelude.{◌≤◌, length};
 ghost use Rattle.sip_wire.specs.Table.{most_queries};
 
-use crate::asking::{Numbers, Outcome, asked};
+use crate::asking::{Numbers, asked};
 use crate::facts::expect;
 use crate::kinds::{
     HEAVY, INDEX, Kind, MOMENT, PRED, SQUARE, SUB, SUCC, SUM_1_3, asked_by, numbers_of_four, wanted,
@@ -226,23 +226,6 @@ const WIDE_KINDS: [Kind; 10] = [
     },
 ];
 
-// Asks these questions in version 2 of a helper that replies so, in pieces of that size.
-fn asked_wide(
-    alloc: Global,
-    questions: &[Question],
-    replies: Vec<u8>,
-    chunk: usize,
-) -> Result<Outcome, Fail>
-    requires few { length questions.now ≤ most_queries }
-    requires chunk { 1 ≤ chunk }
-{
-    let numbers = Numbers {
-        second: M61::of_signed(-118),
-        ..numbers_of_four()
-    };
-    asked_by(alloc, Version::Two, &numbers, questions, replies, chunk)
-}
-
 // The helper says what it holds of the records that are asked for, hears what is asked, and its
 // replies are accepted, in pieces of that size.
 fn check_talk(
@@ -260,7 +243,11 @@ fn check_talk(
     talk.extend_from_slice(&said)?;
     let (end, sent) = served(alloc, (Form::Text, LINES, &talk), chunk, (&[], &[]))?;
     let replies = behind(alloc, &sent, &HELD_6)?;
-    let came = asked_wide(alloc, questions, replies, chunk)?;
+    let numbers = Numbers {
+        second: M61::of_signed(-118),
+        ..numbers_of_four()
+    };
+    let came = asked_by(alloc, Version::Two, &numbers, questions, replies, chunk)?;
     let facts = [
         end == StoreStatus::Served,
         sent.starts_with(&HELD_6),

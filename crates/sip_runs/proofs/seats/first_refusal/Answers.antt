@@ -11,11 +11,7 @@ refusal-requires c =
     (version, depth, stream, subst (IsSeated version depth stream) (sym c.index-seats-index.is) (all c.loop-index.index c.index-seats-index.result c.loop-index-test.true))
 
 pub loop-index-preserved : goal.loop-index-preserved
-loop-index-preserved c =
-    none_behind (refusal_at (weight_in c.args.weights.now)) c.args.seats.now c.loop-index.index c.index-seats-index.result c.index-seats-index.is c.loop-index-test.true
-    c.loop-index.invariant c.refusal.result c.refusal.ensures c.in_default.is
+loop-index-preserved c = none_behind (refusal_at (weight_in c.args.weights.now)) c.args.seats.now c.loop-index.index c.index-seats-index.result c.index-seats-index.is c.loop-index-test.true c.loop-index.invariant c.refusal.result c.refusal.ensures c.in_default.is
 
 pub returns-in-Some : goal.returns-in-Some
-returns-in-Some c =
-    this_there (refusal_at (weight_in c.args.weights.now)) c.args.seats.now c.loop-index.index c.index-seats-index.result c.index-seats-index.is c.loop-index-test.true
-    c.loop-index.invariant c.refusal.result c.refusal.ensures c.in-Some.status c.in-Some.is
+returns-in-Some c = this_there (refusal_at (weight_in c.args.weights.now)) c.args.seats.now c.loop-index.index c.index-seats-index.result c.index-seats-index.is c.loop-index-test.true c.loop-index.invariant c.refusal.result c.refusal.ensures c.in-Some.status c.in-Some.is
