@@ -13,6 +13,7 @@ use Rattle.std.proofs.lemmas.List.Elements.{All-nil, All-cons, All-head, All-tai
 use Rattle.sip_vector.specs.Limits.{most_depth}
 use Rattle.sip_vector.specs.Trees.{up3}
 use Rattle.sip_wire.specs.declared.message.Node.{Node}
+use Rattle.sip_heavy.specs.declared.form.LeafForm.{LeafForm}
 use Rattle.sip_heavy.specs.AcceptsHeavy.{joined}
 use Rattle.sip_heavy.specs.Honest.{Proving, its_nodes, shown, shown_pair, shown_from}
 use Rattle.sip_heavy.specs.Rising.{Rises}
@@ -90,8 +91,8 @@ pub first_found : (p t left : ℕ) (is_leaf : Bool) (from start : ℕ) (xs : Lis
     → {F : Type 0} {g : Mut F (Bor Node × Unit {0}) Bool} {f : F} → ((q : Node → Bool) → ComputesKey g q f → IsPartitionedBy q xs → IsPartitionPoint (λ y. q y ≡ true) (λ y. q y ≡ false) xs start)
     → (called : (a : Bor Node × Unit {0}) (r : Bool) (next : F) → Called g f a r next → (r ≡ nat_lt (a.0.now.index / 2) (from / 2)) × (next ≡ f))
     → (found : Option Node) → found ≡ slice_get (from_on from (shown_spots t is_leaf (drop start xs))) 0
-    → (k : Proving) → ◌≡◌ {A = Proving} (record { at_least = t; is_leaf = is_leaf; level = whole_level (2 ^ left) 0 xs }) k → found ≡ slice_get (from_on from (its_nodes k)) 0
-first_found p t left is_leaf from start xs kept off clause called found is k view =
+    → (form : LeafForm) (k : Proving) → ◌≡◌ {A = Proving} (record { form = form; at_least = t; is_leaf = is_leaf; level = whole_level (2 ^ left) 0 xs }) k → found ≡ slice_get (from_on from (its_nodes k)) 0
+first_found p t left is_leaf from start xs kept off clause called found is form k view =
     let parts = IsPartitionPoint-from_clause (λ (y : Node). nat_lt (y.index / 2) (from / 2)) xs start clause
     (IsPartitionedBy-ltb (λ (y : Node). y.index / 2) xs (from / 2) (λ i j d le lt. halves_rise xs 0 (2 ^ left) i j d kept.rises le lt)) called in
     is ∙ first_of_level p t left is_leaf from start xs kept (some_left left off) parts ∙ ap (λ (s : Proving). slice_get (from_on from (its_nodes s)) 0) view
