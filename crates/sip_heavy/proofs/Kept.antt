@@ -9,6 +9,7 @@ use Rattle.std.proofs.lemmas.List.Elements.{All-nil, All-cons, All-head, All-tai
 use Rattle.sip_vector.specs.Limits.{most_depth}
 use Rattle.sip_vector.specs.Trees.{up3}
 use Rattle.sip_wire.specs.declared.message.Node.{Node}
+use Rattle.sip_heavy.specs.declared.form.LeafForm.{LeafForm}
 use Rattle.sip_heavy.specs.AcceptsHeavy.{joined}
 use Rattle.sip_heavy.specs.Honest.{Proving, its_nodes, shown, shown_pair, shown_from}
 use Rattle.sip_heavy.specs.Rising.{Rises}
@@ -84,8 +85,8 @@ first_of_level p t left is_leaf from start xs kept level parts =
 pub first_found : (p t left : ℕ) (is_leaf : Bool) (from start : ℕ) (xs : List Node) → IsKept p t left xs → (left ≡ 0 → ⊥)
     → IsPartitionPoint (λ y. nat_lt (y.index / 2) (from / 2) ≡ true) (λ y. nat_lt (y.index / 2) (from / 2) ≡ false) xs start
     → (found : Option Node) → found ≡ slice_get (from_on from (shown_spots t is_leaf (drop start xs))) 0
-    → (k : Proving) → ◌≡◌ {A = Proving} (record { at_least = t; is_leaf = is_leaf; level = whole_level (2 ^ left) 0 xs }) k → found ≡ slice_get (from_on from (its_nodes k)) 0
-first_found p t left is_leaf from start xs kept off parts found is k view =
+    → (form : LeafForm) (k : Proving) → ◌≡◌ {A = Proving} (record { form = form; at_least = t; is_leaf = is_leaf; level = whole_level (2 ^ left) 0 xs }) k → found ≡ slice_get (from_on from (its_nodes k)) 0
+first_found p t left is_leaf from start xs kept off parts found is form k view =
     is ∙ first_of_level p t left is_leaf from start xs kept (some_left left off) parts ∙ ap (λ (s : Proving). slice_get (from_on from (its_nodes s)) 0) view
   where
     some_left : (n : ℕ) → (n ≡ 0 → ⊥) → 1 ≤ n

@@ -48,6 +48,86 @@ fn listed<F: Field>(alloc: Global, entries: &[Entry]) -> Result<Vec<Node>, OutOf
     Ok(spots)
 }
 
+// The marks over the weights that are not 0, each with its value. O(m), and slower where additions
+// are pending in a vector.
+pub(crate) fn marks_of<F: Field>(
+    alloc: Global,
+    values: &Vector,
+    weights: &Vector,
+) -> Result<Vec<Node>, OutOfMemory>
+    ensures { IfOk result (λ spots. spots.items ≡ spots_of.marked_entries F.MODULUS
+        (nonzero values.now.numbers) (nonzero weights.now.numbers)) }
+{
+    if let Some(entries) = values.entries() {
+        return marks_with::<F>(alloc, entries, weights);
+    }
+    let entries = values.entries_with_pending(alloc)?;
+    marks_with::<F>(alloc, &entries, weights)
+}
+
+// The same, where the values that are not 0 are these.
+fn marks_with<F: Field>(
+    alloc: Global,
+    values: &[Entry],
+    weights: &Vector,
+) -> Result<Vec<Node>, OutOfMemory>
+    ensures { IfOk result (λ spots. spots.items ≡ spots_of.marked_entries F.MODULUS
+        values.now (nonzero weights.now.numbers)) }
+{
+    if let Some(entries) = weights.entries() {
+        return marked::<F>(alloc, values, entries);
+    }
+    let entries = weights.entries_with_pending(alloc)?;
+    marked::<F>(alloc, values, &entries)
+}
+
+// The marks of these weights, by one walk over both lists.
+fn marked<F: Field>(
+    alloc: Global,
+    values: &[Entry],
+    weights: &[Entry],
+) -> Result<Vec<Node>, OutOfMemory>
+    ensures { IfOk result (λ spots. spots.items
+        ≡ spots_of.marked_entries F.MODULUS values.now weights.now) }
+{
+    let mut spots = Vec::with_capacity(alloc, weights.len())?;
+    let mut rest = values;
+    for weight in weights {
+        let found = value_at(rest, weight.index);
+        rest = found.behind;
+        spots.push(Node {
+            index: weight.index,
+            hash: F::of_signed(found.value).number(),
+            count: weight.value.unsigned_abs(),
+        })?;
+    }
+    Ok(spots)
+}
+
+// The value at an index, and the entries behind it.
+#[derive(Clone, Copy)]
+struct Found<'a> {
+    value: i64,
+    behind: &'a [Entry],
+}
+
+// The value at an index where the first of these entries stands there, and else 0.
+fn value_at(values: &[Entry], index: u64) -> Found<'_>
+    ensures value { result.value ≡ spots_of.value_at index values.now }
+    ensures behind { result.behind.now ≡ spots_of.behind_value index values.now }
+{
+    match values {
+        [first, behind @ ..] if first.index == index => Found {
+            value: first.value,
+            behind,
+        },
+        _ => Found {
+            value: 0,
+            behind: values,
+        },
+    }
+}
+
 // Two siblings of which one at least is not zero, and how many nodes of a list they are.
 #[derive(Clone, Copy)]
 struct Pair {

@@ -33,7 +33,7 @@ pub returns-in_err-node-clause-first : goal.returns-in_err-node-clause-first
 returns-in_err-node-clause-first g c =
     let s = c.self.inside in
     let first = first_found g.F.Field.MODULUS s.at_least s.levels_left s.is_leaf c.args.from c.place_of-start.result s.spots.items c.self.invariant c.if-self-eq0.false
-    (rw c.deref.ensures.value at c.place_of-start.ensures.parts) c.first_shown.result (rw c.deref-2.ensures.value at c.first_shown.ensures) c.args.self.now c.self.view_is in
+    (rw c.deref.ensures.value at c.place_of-start.ensures.parts) c.first_shown.result (rw c.deref-2.ensures.value at c.first_shown.ensures) s.form c.args.self.now c.self.view_is in
     ap (option_map (node_of g.F.Field.number)) c.from_residual.ensures ∙ sym c.in_err-node.was ∙ first
 
 pub returns-clause-first : goal.returns-clause-first
@@ -44,7 +44,7 @@ returns-clause-first g c =
     let start = c.place_of-start.result in
     let found = rw c.deref-2.ensures.value at c.first_shown.ensures in
     let first = first_found g.F.Field.MODULUS s.at_least s.levels_left s.is_leaf from start spots c.self.invariant c.if-self-eq0.false
-    (rw c.deref.ensures.value at c.place_of-start.ensures.parts) c.first_shown.result found c.args.self.now c.self.view_is in
+    (rw c.deref.ensures.value at c.place_of-start.ensures.parts) c.first_shown.result found s.form c.args.self.now c.self.view_is in
     let node = c.in_ok-node.node in
     let p : ℕ = g.F.Field.MODULUS in
     let shown = sym found ∙ c.in_ok-node.was in
@@ -57,5 +57,5 @@ returns-clause-within g c =
     let s = c.self.inside in
     let now = c.args.self.now in
     let first = first_found g.F.Field.MODULUS s.at_least s.levels_left s.is_leaf c.args.from c.place_of-start.result s.spots.items c.self.invariant c.if-self-eq0.false
-    (rw c.deref.ensures.value at c.place_of-start.ensures.parts) c.first_shown.result (rw c.deref-2.ensures.value at c.first_shown.ensures) now c.self.view_is in
+    (rw c.deref.ensures.value at c.place_of-start.ensures.parts) c.first_shown.result (rw c.deref-2.ensures.value at c.first_shown.ensures) s.form now c.self.view_is in
     (first_inside c.args.from 0 (length now.level) (its_nodes now) c.in_ok-node.node (nodes_rise now) (sym first ∙ c.in_ok-node.was)).1
