@@ -143,8 +143,8 @@ impl<F: Field> HeavyProver<F> {
     ///
     /// A walk over the nodes up to the one that is found, without memory, from a place that `near`
     /// tells or else a search of O(log m) finds. `near` may be any number, and tells the place for
-    /// the index behind the node then: whoever goes from node to node begins at 0, and a level costs
-    /// O(m).
+    /// the index behind the node then: whoever goes from node to node begins at 0, and a level
+    /// costs O(m).
     pub fn next_node(&self, near: &mut usize, from: u64) -> Option<HeavyNode<F>>
         ensures first { option_map (node_of F.number) result
             ≡ slice_get (filter (λ x. nat_le from x.index) (its_nodes self.now)) 0 }

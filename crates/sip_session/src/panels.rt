@@ -63,8 +63,8 @@ fn by_query(status: Status, helpers: u8) -> Status
 }
 
 /// Draws the challenges of all seats, which keep their tables, and sends the stream to each helper.
-/// The seats are left in `gathered`, as they are where the steps stop, and which sides of the stream
-/// had a delta below 0 in `negatives`.
+/// The seats are left in `gathered`, as they are where the steps stop, and which sides of the
+/// stream had a delta below 0 in `negatives`.
 fn gather_all<A: Source, B: Source>(
     alloc: Global,
     wide: &Task,
