@@ -27,6 +27,7 @@ ghost use Rattle.sip_verifier.specs.Tasks.{CanBeDone};
 ghost use Rattle.sip_verifier.specs.Weights.{AreWeights, none};
 
 use crate::ending::{on_keep, on_link};
+use crate::seats::challenges_for;
 use crate::{Feed, Port, Seats, Status, Tables, Task, Weights};
 use sip_ports::{Link, PortStop, Sink, Source, read_exact_into};
 use sip_stream::{Reader, StreamFault};
@@ -77,13 +78,13 @@ pub fn draw<B: Source>(
     if came < 32 {
         return Err(Status::BadSeed);
     }
-    match Seats::draw(&seed, task.depth, &task.queries) {
-        Ok(seats) => {
-            *drawn = Ok(seats);
-            Ok(())
-        }
-        Err(_) => Err(Status::SeedSpent),
-    }
+    // As `Seats::draw`, but the seats are moved once, to where they stay.
+    let challenges = challenges_for(&seed, task.depth, &task.queries);
+    let Ok(challenges) = &challenges else {
+        return Err(Status::SeedSpent);
+    };
+    *drawn = Ok(Seats::given(task.depth, &task.queries, challenges));
+    Ok(())
 }
 
 /// Takes one more record of the stream, which waits for its frame. With the last one of a frame the

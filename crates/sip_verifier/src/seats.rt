@@ -1,9 +1,10 @@
 //! What a verifier keeps of a stream: for each query its challenges and one running number or two.
 
 ghost use Rattle.std.specs.Prelude.{◌≡◌, ℕ, ◌*◌, ◌<◌, ◌≤◌, ◌^◌, IsTrue, false, List, [], ◌∷◌, ◌++◌};
-ghost use Rattle.std.specs.Prelude.{length, map, take, All};
+ghost use Rattle.std.specs.Prelude.{length, map, take, All, Some};
 ghost use Rattle.std.specs.List.{list_all, list_any, zip};
 ghost use Rattle.arrayvec.specs.ArrayVec.{array_vec_len};
+ghost use Rattle.sip_field.specs.Draw.{drawn_list};
 ghost use Rattle.sip_field.specs.Elements.{m61_number};
 ghost use Rattle.sip_ports.specs.Ports.{HasCause, SendsWhole};
 ghost use Rattle.sip_vector.specs.declared.query.Query.{Query as AnyQuery};
@@ -14,6 +15,7 @@ ghost use Rattle.sip_vector.specs.Pieces.{cut};
 ghost use Rattle.sip_vector.specs.Streams.{of_side};
 ghost use Rattle.sip_wire.specs.Table.{most_queries, most_rows};
 ghost use Rattle.sip_wire.specs.Versions.{needed};
+ghost use Rattle.sip_verifier.specs.Draws.{challenges_of};
 ghost use Rattle.sip_verifier.specs.Negatives.{has_light, heavy_negatives};
 ghost use Rattle.sip_verifier.specs.QuerySeats.{HaveRoom, concerns, is_seat};
 ghost use Rattle.sip_verifier.specs.inside.Raising.{AreLeft};
@@ -32,6 +34,22 @@ use std::marker::Model;
 
 /// How many challenges a run has at most: 16 queries at depth 48.
 const MOST_CHALLENGES: usize = MOST_QUERIES * CAP;
+
+/// The challenges that a seed gives for these queries, `depth` for each. The copies of them that
+/// this takes are off the stack behind the call.
+#[inline(never)]
+pub(crate) fn challenges_for(
+    seed: &[u8; 32],
+    depth: Depth,
+    queries: &[Query],
+) -> Result<ArrayVec<M61, MOST_CHALLENGES>, SeedSpent>
+    requires most { length queries.now ≤ most_queries }
+    ensures drawn { drawn_list result ≡ challenges_of (depth * length queries.now) seed.now }
+    ensures count { (challenges : List ℕ) → drawn_list result ≡ Some challenges
+        → length challenges ≡ depth * length queries.now }
+{
+    draw_challenges(*seed, depth.get() as usize * queries.len())
+}
 
 /// The seats of a run: one for each query, in the order of the queries. Each has its own challenges
 /// and one running number or two, which stand for the stream so far. Beside these nothing of a
@@ -72,13 +90,8 @@ impl Seats {
         requires asked { All (CanBeAsked depth) queries.now }
         ensures { AreDrawn depth queries.now seed.now result }
     {
-        let count = depth.get() as usize * queries.len();
-        // The challenges are too large to be moved about.
-        let drawn = draw_challenges::<MOST_CHALLENGES>(*seed, count);
-        match &drawn {
-            Ok(challenges) => Ok(Seats::given(depth, queries, challenges)),
-            Err(_) => Err(SeedSpent),
-        }
+        let challenges = challenges_for(seed, depth, queries)?;
+        Ok(Seats::given(depth, queries, &challenges))
     }
 
     /// The seats with these challenges, `depth` for each query in order, before any update.
