@@ -1,5 +1,5 @@
-//! Running numbers, fed by blocks of updates: tables of the products of seven challenges each are made on the stack for a block,
-//! and an update is then one look-up and one product for each of them, and one product with its delta.
+//! Running numbers, fed by blocks of updates: tables of the products of eight challenges each, which are kept, and an update is then
+//! one look-up and one product for each of them, and one product with its delta.
 
 use super::field::{minus, of_signed, plus, times};
 use super::streams::Update;
@@ -7,103 +7,100 @@ use super::streams::Update;
 /// The challenges of a query, the lowest level's first.
 pub type Seat = Vec<u64>;
 
-/// How many challenges a table is made of, and how many tables there are at most.
-const GROUP: usize = 7;
-const ENTRIES: usize = 1 << GROUP;
-const MOST_TABLES: usize = 7;
+/// How many challenges a table is made of: its entries are chosen by the bytes of an item.
+pub const BYTE: usize = 8;
+pub const ENTRIES: usize = 1 << BYTE;
 
-type Table = [u64; ENTRIES];
+pub type Table = [u64; ENTRIES];
 
-/// The tables of a seat. A bit that is 1 gives its challenge, and a bit that is 0 gives 1, or 1 less its challenge.
-fn tables(seat: &Seat, is_tree: bool) -> [Table; MOST_TABLES] {
-    let mut tables = [[0; ENTRIES]; MOST_TABLES];
-    for (table, challenges) in tables.iter_mut().zip(seat.chunks(GROUP)) {
-        table[0] = 1;
-        for (level, &r) in challenges.iter().enumerate() {
-            let (left, right) = table.split_at_mut(1 << level);
-            for (zero, one) in left.iter_mut().zip(right) {
-                *one = times(*zero, r);
-                if !is_tree {
-                    *zero = minus(*zero, *one);
-                }
+/// The table of up to eight challenges. A bit that is 1 gives its challenge, and a bit that is 0 gives 1, or 1 less its challenge.
+pub fn product_table(challenges: &[u64], is_tree: bool) -> Table {
+    let mut table = [0; ENTRIES];
+    table[0] = 1;
+    for (level, &r) in challenges.iter().enumerate() {
+        let (left, right) = table.split_at_mut(1 << level);
+        for (zero, one) in left.iter_mut().zip(right) {
+            *one = times(*zero, r);
+            if !is_tree {
+                *zero = minus(*zero, *one);
             }
         }
     }
-    tables
+    table
+}
+
+/// The tables of a seat.
+pub fn product_tables(seat: &[u64], is_tree: bool) -> Vec<Table> {
+    seat.chunks(BYTE).map(|challenges| product_table(challenges, is_tree)).collect()
 }
 
 /// Calls a function of a number of tables, which is a constant in it.
 macro_rules! with_count {
-    ($seat:expr, $function:ident($($argument:expr),*)) => {
-        match $seat.len().div_ceil(GROUP) {
+    ($tables:expr, $function:ident($($argument:expr),*)) => {
+        match $tables.len() {
             1 => $function::<1>($($argument),*),
             2 => $function::<2>($($argument),*),
             3 => $function::<3>($($argument),*),
             4 => $function::<4>($($argument),*),
             5 => $function::<5>($($argument),*),
-            6 => $function::<6>($($argument),*),
-            _ => $function::<7>($($argument),*),
+            _ => $function::<6>($($argument),*),
         }
     };
 }
 
-fn entry_of(item: u64, group: usize) -> usize {
-    (item >> (GROUP * group)) as usize % ENTRIES
-}
+pub(crate) use with_count;
 
-fn sum<const COUNT: usize>(tables: &[Table; MOST_TABLES], value: u64, block: &[Update]) -> u64 {
+fn sum<const COUNT: usize>(tables: &[Table], value: u64, block: &[Update]) -> u64 {
+    let tables: &[Table; COUNT] = tables.try_into().unwrap();
     block.iter().fold(value, |sum, update| {
+        let bytes = update.item.to_le_bytes();
         let start = of_signed(update.delta);
-        plus(sum, (0..COUNT).fold(start, |product, group| times(product, tables[group][entry_of(update.item, group)])))
+        plus(sum, (0..COUNT).fold(start, |product, group| times(product, tables[group][usize::from(bytes[group])])))
     })
 }
 
-pub fn root(seat: &Seat, value: u64, block: &[Update]) -> u64 {
-    let tables = tables(seat, true);
-    with_count!(seat, sum(&tables, value, block))
+/// A root or an extension after a block.
+pub fn product_sum(tables: &[Table], value: u64, block: &[Update]) -> u64 {
+    with_count!(tables, sum(tables, value, block))
 }
 
-pub fn point(seat: &Seat, value: u64, block: &[Update]) -> u64 {
-    let tables = tables(seat, false);
-    with_count!(seat, sum(&tables, value, block))
-}
-
-/// The same with products that are reduced in part, and one reduction for the block.
 /// What some levels make of a hash h: `scale * h + shift`.
 #[derive(Clone, Copy)]
-struct Step {
-    scale: u64,
-    shift: u64,
+pub struct Step {
+    pub scale: u64,
+    pub shift: u64,
 }
 
-type StepTable = [Step; ENTRIES];
+pub type StepTable = [Step; ENTRIES];
 
-/// The tables of a seat for the augmented tree. A level makes a hash h + r on the left, and (h + r)·r² on the right.
-fn step_tables(seat: &Seat) -> [StepTable; MOST_TABLES] {
-    let mut tables = [[Step { scale: 1, shift: 0 }; ENTRIES]; MOST_TABLES];
-    for (table, challenges) in tables.iter_mut().zip(seat.chunks(GROUP)) {
-        for (level, &r) in challenges.iter().enumerate() {
-            let square = times(r, r);
-            let (left, right) = table.split_at_mut(1 << level);
-            for (zero, one) in left.iter_mut().zip(right) {
-                zero.shift = plus(zero.shift, r);
-                *one = Step { scale: times(zero.scale, square), shift: times(zero.shift, square) };
-            }
+/// The table of up to eight challenges for the augmented tree, of a shift to begin with. A level makes a hash h + r on the left, and
+/// (h + r)·r² on the right.
+pub fn step_table(challenges: &[u64], start: u64) -> StepTable {
+    let mut table = [Step { scale: 1, shift: start }; ENTRIES];
+    for (level, &r) in challenges.iter().enumerate() {
+        let square = times(r, r);
+        let (left, right) = table.split_at_mut(1 << level);
+        for (zero, one) in left.iter_mut().zip(right) {
+            zero.shift = plus(zero.shift, r);
+            *one = Step { scale: times(zero.scale, square), shift: times(zero.shift, square) };
         }
     }
-    // The hash below the first table is 1.
-    for step in &mut tables[0] {
-        step.shift = plus(step.scale, step.shift);
-    }
-    tables
+    table
 }
 
-fn hash_sum<const COUNT: usize>(tables: &[StepTable; MOST_TABLES], value: u64, block: &[Update]) -> u64 {
+/// The tables of a seat. The hash below the first table is 1, and below the others nothing is known of it.
+pub fn step_tables(seat: &[u64]) -> Vec<StepTable> {
+    seat.chunks(BYTE).enumerate().map(|(group, challenges)| step_table(challenges, u64::from(group == 0))).collect()
+}
+
+fn hash<const COUNT: usize>(tables: &[StepTable], value: u64, block: &[Update]) -> u64 {
+    let tables: &[StepTable; COUNT] = tables.try_into().unwrap();
     let mut sum = value;
     for update in block {
-        let mut weight = tables[0][entry_of(update.item, 0)].shift;
+        let bytes = update.item.to_le_bytes();
+        let mut weight = tables[0][usize::from(bytes[0])].shift;
         for group in 1..COUNT {
-            let step = tables[group][entry_of(update.item, group)];
+            let step = tables[group][usize::from(bytes[group])];
             weight = plus(times(weight, step.scale), step.shift);
         }
         sum = plus(sum, times(weight, of_signed(update.delta)));
@@ -111,7 +108,7 @@ fn hash_sum<const COUNT: usize>(tables: &[StepTable; MOST_TABLES], value: u64, b
     sum
 }
 
-pub fn augroot(seat: &Seat, value: u64, block: &[Update]) -> u64 {
-    let tables = step_tables(seat);
-    with_count!(seat, hash_sum(&tables, value, block))
+/// The hash of an augmented root after a block.
+pub fn hash_sum(tables: &[StepTable], value: u64, block: &[Update]) -> u64 {
+    with_count!(tables, hash(tables, value, block))
 }

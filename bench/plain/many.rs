@@ -1,6 +1,7 @@
-//! Running numbers, one or several, that are fed with the same blocks, each with challenges of its own.
+//! Running numbers, one or several, that are fed with the same blocks, each with challenges of its own. Their tables are kept from
+//! block to block.
 
-use super::blocks::{self, Seat};
+use super::blocks::{self, BYTE, ENTRIES, Seat, Step, StepTable, Table, product_table, step_table, with_count};
 use super::field::{folded_eighth, minus, of, of_wide_unsigned, plus, times};
 use super::streams::Update;
 
@@ -19,57 +20,70 @@ pub trait Many {
 
 /// Which number it is.
 pub trait Kind {
-    const IS_TREE: bool;
+    type Table;
 
-    /// The number after a block, by itself.
-    fn after(seat: &Seat, value: u64, block: &[Update]) -> u64;
+    fn tables(seat: &[u64]) -> Vec<Self::Table>;
+
+    /// The number after a block.
+    fn after(tables: &[Self::Table], value: u64, block: &[Update]) -> u64;
 }
 
 pub struct Root;
 
 impl Kind for Root {
-    const IS_TREE: bool = true;
+    type Table = Table;
 
-    fn after(seat: &Seat, value: u64, block: &[Update]) -> u64 {
-        blocks::root(seat, value, block)
+    fn tables(seat: &[u64]) -> Vec<Table> {
+        blocks::product_tables(seat, true)
+    }
+
+    fn after(tables: &[Table], value: u64, block: &[Update]) -> u64 {
+        blocks::product_sum(tables, value, block)
     }
 }
 
 pub struct Point;
 
 impl Kind for Point {
-    const IS_TREE: bool = false;
+    type Table = Table;
 
-    fn after(seat: &Seat, value: u64, block: &[Update]) -> u64 {
-        blocks::point(seat, value, block)
+    fn tables(seat: &[u64]) -> Vec<Table> {
+        blocks::product_tables(seat, false)
+    }
+
+    fn after(tables: &[Table], value: u64, block: &[Update]) -> u64 {
+        blocks::product_sum(tables, value, block)
     }
 }
 
 pub struct AugRoot;
 
 impl Kind for AugRoot {
-    const IS_TREE: bool = true;
+    type Table = StepTable;
 
-    fn after(seat: &Seat, value: u64, block: &[Update]) -> u64 {
-        blocks::augroot(seat, value, block)
+    fn tables(seat: &[u64]) -> Vec<StepTable> {
+        blocks::step_tables(seat)
+    }
+
+    fn after(tables: &[StepTable], value: u64, block: &[Update]) -> u64 {
+        blocks::hash_sum(tables, value, block)
     }
 }
 
-/// One after another: each makes its tables for each block.
-pub struct OneByOne<K> {
-    seats: Vec<Seat>,
+/// The numbers by the field's own `times` and `plus`.
+pub struct Kept<K: Kind> {
+    tables: Vec<Vec<K::Table>>,
     values: Vec<u64>,
-    kind: std::marker::PhantomData<K>,
 }
 
-impl<K: Kind> Many for OneByOne<K> {
+impl<K: Kind> Many for Kept<K> {
     fn of(seats: Vec<Seat>) -> Self {
-        OneByOne { values: vec![0; seats.len()], seats, kind: std::marker::PhantomData }
+        Kept { values: vec![0; seats.len()], tables: seats.iter().map(|seat| K::tables(seat)).collect() }
     }
 
     fn update_all(&mut self, block: &[Update]) {
-        for (seat, value) in self.seats.iter().zip(&mut self.values) {
-            *value = K::after(seat, *value, block);
+        for (tables, value) in self.tables.iter().zip(&mut self.values) {
+            *value = K::after(tables, *value, block);
         }
     }
 
@@ -78,30 +92,11 @@ impl<K: Kind> Many for OneByOne<K> {
     }
 }
 
-/// How many challenges a kept table is made of: its entries are chosen by the bytes of an item.
-const BYTE: usize = 8;
-const ENTRIES: usize = 1 << BYTE;
-
-/// Tables that are kept from block to block. The factors in them are eight times as large, which spares each product a shift.
-pub struct KeptProducts<K> {
-    tables: Vec<Vec<[u64; ENTRIES]>>,
+/// Roots, or extensions, with products that are reduced in part. The factors in their tables are eight times as large, which spares
+/// each product a shift.
+pub struct LazyProducts<const IS_TREE: bool> {
+    tables: Vec<Vec<Table>>,
     values: Vec<u64>,
-    kind: std::marker::PhantomData<K>,
-}
-
-fn product_table(challenges: &[u64], is_tree: bool) -> [u64; ENTRIES] {
-    let mut table = [0; ENTRIES];
-    table[0] = 1;
-    for (level, &r) in challenges.iter().enumerate() {
-        let (left, right) = table.split_at_mut(1 << level);
-        for (zero, one) in left.iter_mut().zip(right) {
-            *one = times(*zero, r);
-            if !is_tree {
-                *zero = minus(*zero, *one);
-            }
-        }
-    }
-    table.map(|entry| 8 * entry)
 }
 
 /// The sum of products of 64 by 64 bits, as two sums of 64 bits each.
@@ -129,8 +124,8 @@ impl Sum {
     }
 }
 
-fn product_sum<const COUNT: usize>(tables: &[[u64; ENTRIES]], block: &[Update]) -> u64 {
-    let tables: &[[u64; ENTRIES]; COUNT] = tables.try_into().unwrap();
+fn product_sum<const COUNT: usize>(tables: &[Table], block: &[Update]) -> u64 {
+    let tables: &[Table; COUNT] = tables.try_into().unwrap();
     let mut sum = Sum::default();
     for update in block {
         let bytes = update.item.to_le_bytes();
@@ -143,24 +138,11 @@ fn product_sum<const COUNT: usize>(tables: &[[u64; ENTRIES]], block: &[Update]) 
     sum.total()
 }
 
-/// Calls a function of a number of tables, which is a constant in it.
-macro_rules! with_count {
-    ($tables:expr, $function:ident($($argument:expr),*)) => {
-        match $tables.len() {
-            1 => $function::<1>($($argument),*),
-            2 => $function::<2>($($argument),*),
-            3 => $function::<3>($($argument),*),
-            4 => $function::<4>($($argument),*),
-            5 => $function::<5>($($argument),*),
-            _ => $function::<6>($($argument),*),
-        }
-    };
-}
-
-impl<K: Kind> Many for KeptProducts<K> {
+impl<const IS_TREE: bool> Many for LazyProducts<IS_TREE> {
     fn of(seats: Vec<Seat>) -> Self {
-        let tables = |seat: &Seat| seat.chunks(BYTE).map(|challenges| product_table(challenges, K::IS_TREE)).collect();
-        KeptProducts { tables: seats.iter().map(tables).collect(), values: vec![0; seats.len()], kind: std::marker::PhantomData }
+        let table = |challenges: &[u64]| product_table(challenges, IS_TREE).map(|entry| 8 * entry);
+        let tables = |seat: &Seat| seat.chunks(BYTE).map(table).collect();
+        LazyProducts { tables: seats.iter().map(tables).collect(), values: vec![0; seats.len()] }
     }
 
     fn update_all(&mut self, block: &[Update]) {
@@ -174,34 +156,18 @@ impl<K: Kind> Many for KeptProducts<K> {
     }
 }
 
-/// What some levels make of a hash: `scale * h + shift`, the scale eight times as large.
-#[derive(Clone, Copy)]
-struct Step {
-    scale: u64,
-    shift: u64,
-}
-
-/// The same for augmented roots.
-pub struct KeptSteps {
-    tables: Vec<Vec<[Step; ENTRIES]>>,
+/// The same for augmented roots: a step's scale is eight times as large.
+pub struct LazySteps {
+    tables: Vec<Vec<StepTable>>,
     values: Vec<u64>,
 }
 
-fn step_table(challenges: &[u64], start: u64) -> [Step; ENTRIES] {
-    let mut table = [Step { scale: 1, shift: start }; ENTRIES];
-    for (level, &r) in challenges.iter().enumerate() {
-        let square = times(r, r);
-        let (left, right) = table.split_at_mut(1 << level);
-        for (zero, one) in left.iter_mut().zip(right) {
-            zero.shift = plus(zero.shift, r);
-            *one = Step { scale: times(zero.scale, square), shift: times(zero.shift, square) };
-        }
-    }
+fn scaled(table: StepTable) -> StepTable {
     table.map(|step| Step { scale: 8 * step.scale, shift: step.shift })
 }
 
 fn step_sum<const COUNT: usize>(tables: &[[Step; ENTRIES]], block: &[Update]) -> u64 {
-    let tables: &[[Step; ENTRIES]; COUNT] = tables.try_into().unwrap();
+    let tables: &[StepTable; COUNT] = tables.try_into().unwrap();
     let mut sum = Sum::default();
     for update in block {
         let bytes = update.item.to_le_bytes();
@@ -219,12 +185,12 @@ fn step_sum<const COUNT: usize>(tables: &[[Step; ENTRIES]], block: &[Update]) ->
     sum.total()
 }
 
-impl Many for KeptSteps {
+impl Many for LazySteps {
     fn of(seats: Vec<Seat>) -> Self {
         // The hash below the first table is 1, and below the others nothing is known of it.
-        let table = |(group, challenges): (usize, &[u64])| step_table(challenges, u64::from(group == 0));
+        let table = |(group, challenges): (usize, &[u64])| scaled(step_table(challenges, u64::from(group == 0)));
         let tables = |seat: &Seat| seat.chunks(BYTE).enumerate().map(table).collect();
-        KeptSteps { tables: seats.iter().map(tables).collect(), values: vec![0; seats.len()] }
+        LazySteps { tables: seats.iter().map(tables).collect(), values: vec![0; seats.len()] }
     }
 
     fn update_all(&mut self, block: &[Update]) {

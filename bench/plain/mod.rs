@@ -24,7 +24,7 @@ pub mod transcripts;
 pub mod vector;
 pub mod verifier;
 
-use many::{KeptProducts, KeptSteps, Many, OneByOne};
+use many::{Kept, LazyProducts, LazySteps, Many};
 use products::{Lazy, Products, Reduced};
 use siblings::Tables;
 use std::io::Result;
@@ -58,9 +58,9 @@ pub struct Plain;
 
 impl Design for Plain {
     type Vector = SortedVector;
-    type Roots = OneByOne<many::Root>;
-    type Points = OneByOne<many::Point>;
-    type AugRoots = OneByOne<many::AugRoot>;
+    type Roots = Kept<many::Root>;
+    type Points = Kept<many::Point>;
+    type AugRoots = Kept<many::AugRoot>;
     type Products = Reduced;
 
     const FRAMES: usize = 1;
@@ -78,9 +78,9 @@ pub struct Limit;
 
 impl Design for Limit {
     type Vector = PackedVector;
-    type Roots = KeptProducts<many::Root>;
-    type Points = KeptProducts<many::Point>;
-    type AugRoots = KeptSteps;
+    type Roots = LazyProducts<true>;
+    type Points = LazyProducts<false>;
+    type AugRoots = LazySteps;
     type Products = Lazy;
 
     const FRAMES: usize = 8;

@@ -1,7 +1,7 @@
 //! The verifier's end of a talk. It tests what it reads and hears, and takes its challenges from another generator than `sip`.
 
 use super::Design;
-use super::blocks::{self, Seat};
+use super::blocks::{Seat, Table, product_sum, product_tables};
 use super::field::{of, of_signed, plus, times};
 use super::frames::*;
 use super::hitters;
@@ -115,6 +115,8 @@ struct Check<'a> {
     lo: u64,
     hi: u64,
     seat: &'a Seat,
+    /// Those of the seat, once a block was heard that they are made for.
+    tables: Option<Vec<Table>>,
     entries: Vec<Update>,
     sum: u64,
 }
@@ -138,7 +140,8 @@ impl Check<'_> {
         }
         let block = &self.entries[from..];
         if block.len() >= BLOCK {
-            self.sum = blocks::root(self.seat, self.sum, block);
+            let tables = self.tables.get_or_insert_with(|| product_tables(self.seat, true));
+            self.sum = product_sum(tables, self.sum, block);
         } else {
             for entry in block {
                 self.sum = plus(self.sum, weighted(of_signed(entry.delta), self.seat, entry.item));
@@ -177,7 +180,7 @@ fn reveal(query: &Query, level: usize, frame: &mut Frame, link: &mut Link) -> Re
 /// Hears the replies to a query for a sub-vector, and answers its entries.
 fn hear_part(query: &Query, (lo, hi): (u64, u64), frame: &mut Frame, link: &mut Link) -> Result<Vec<Update>> {
     let width = item_width(query.seat.len() as u32);
-    let mut check = Check { lo, hi, seat: &query.seat, entries: Vec::new(), sum: 0 };
+    let mut check = Check { lo, hi, seat: &query.seat, tables: None, entries: Vec::new(), sum: 0 };
     for level in 0..query.seat.len() {
         reveal(query, level, frame, link)?;
         loop {
