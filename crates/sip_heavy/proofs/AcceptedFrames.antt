@@ -1,6 +1,6 @@
 -- Accepted replies are the bytes of frames of nodes.
 use Rattle.std.proofs.Common.{◌≡◌, ℕ, zero, suc, ◌+◌, Bool, true, false, not, Result, Ok, Err, List, [], ◌∷◌, ◌++◌, length, All, refl, sym, ap, subst, ◌∙◌, arith, append_assoc, append-nil}
-use Rattle.std.specs.Prelude.{◌==◌}
+use Rattle.std.specs.Prelude.{◌==◌, ◌&&◌}
 use Rattle.std.specs.List.{flat_map}
 use Rattle.std.proofs.lemmas.List.Concat.{flat_map-cons}
 use Rattle.std.proofs.lemmas.List.Elements.{All-nil, All-cons, All-head, All-tail}
@@ -24,9 +24,10 @@ use Rattle.sip_replies.specs.declared.check.More.TheVariants as mores
 use Rattle.sip_replies.specs.Protocols.{Rules}
 use Rattle.sip_replies.specs.Replies.{Fault, IsAccepted, IsStated, frame_says, in_round, read_from, read_reply, run_from, step_says, verdict}
 use Rattle.sip_replies.proofs.Passing.{at_end_parts}
+use Rattle.sip_heavy.specs.declared.form.LeafForm.{LeafForm}
 use Rattle.sip_heavy.specs.AcceptsHeavy.{HeavyQuestion, end_test, merged, with_nodes}
 use Rattle.sip_heavy.specs.AcceptsHeavy as heavy
-use Rattle.sip_heavy.specs.Protocol.{HeavyAsked, HeavyState, ended, heavy_finish, heavy_protocol, heavy_rules, heavy_step, leaf_nodes, learns, reaches}
+use Rattle.sip_heavy.specs.Protocol.{HeavyAsked, HeavyState, are_counts, ended, mark_nodes, heavy_finish, heavy_protocol, heavy_rules, heavy_step, leaf_nodes, learns, reaches}
 use Rattle.sip_heavy.specs.Stating.{AreFrames, IsFrame, States, as_answer, stated_nodes, stated_replies, stated_reply}
 use Rattle.sip_heavy.proofs.StatedReplies.{are_judged}
 
@@ -34,9 +35,9 @@ abbrev Next : Type 0
 Next = HeavyState → List ℕ → Result HeavyState Reason
 
 -- these bytes are frames of nodes and the end of the level
-pub record IsReply (version : Version) (s : HeavyState) (bytes : List ℕ) (t : HeavyState) : Type 0 where
+pub record IsReply (version : Version) (form : LeafForm) (s : HeavyState) (bytes : List ℕ) (t : HeavyState) : Type 0 where
   pub frames : List Message
-  pub are : All (IsFrame version (s.level == 0)) frames
+  pub are : All (IsFrame version form (s.level == 0)) frames
   pub spelled : bytes ≡ stated_reply version frames
   pub next : t.level ≡ s.level + 1
 
@@ -45,11 +46,11 @@ module _ (version : Version) (p : ℕ) (q : HeavyQuestion) where
   R = heavy_rules version p q
 
   -- a frame in front
-  one_more : (s t : HeavyState) (all : List Node) (bytes rest : List ℕ) (m : Message) → IsFrame version (s.level == 0) m → bytes ≡ spelling version m ++ rest
-      → IsReply version (record s { received = all }) rest t → IsReply version s bytes t
+  one_more : (s t : HeavyState) (all : List Node) (bytes rest : List ℕ) (m : Message) → IsFrame version q.form (s.level == 0) m → bytes ≡ spelling version m ++ rest
+      → IsReply version q.form (record s { received = all }) rest t → IsReply version q.form s bytes t
   one_more s t all bytes rest m is spelled reply = record {
     frames = m ∷ reply.frames;
-    are = All-cons (IsFrame version (s.level == 0)) m reply.frames is reply.are;
+    are = All-cons (IsFrame version q.form (s.level == 0)) m reply.frames is reply.are;
     spelled =
         spelled ∙ ap (λ b. spelling version m ++ b) reply.spelled
         ∙ sym (append_assoc (spelling version m) (flat_map (spelling version) reply.frames) (spelling version messages.LevelEnd))
@@ -58,57 +59,59 @@ module _ (version : Version) (p : ℕ) (q : HeavyQuestion) where
   }
 
   -- nodes that pass, and what follows
-  by_nodes : (next : Next) (s t : HeavyState) (bytes rest : List ℕ) (m : Message) (test : Bool) (nodes : List Node) (w : Result (List Node) Reason) → (test ≡ true → IsFrame version (s.level == 0) m) → bytes ≡ spelling version m ++ rest
-      → ((u : HeavyState) → u.level ≡ s.level → next u rest ≡ Ok t → IsReply version u rest t)
-      → step_says next rest (needs test reasons.BadKind >>= λ _. w >>= λ all. Ok (mores.Due, record s { received = all })) ≡ Ok t → IsReply version s bytes t
+  by_nodes : (next : Next) (s t : HeavyState) (bytes rest : List ℕ) (m : Message) (test : Bool) (nodes : List Node) (w : Result (List Node) Reason) → (test ≡ true → IsFrame version q.form (s.level == 0) m) → bytes ≡ spelling version m ++ rest
+      → ((u : HeavyState) → u.level ≡ s.level → next u rest ≡ Ok t → IsReply version q.form u rest t)
+      → step_says next rest (needs test reasons.BadKind >>= λ _. w >>= λ all. Ok (mores.Due, record s { received = all })) ≡ Ok t → IsReply version q.form s bytes t
   by_nodes next s t bytes rest m true nodes (Ok all) is spelled later e = one_more s t all bytes rest m (is refl) spelled (later (record s { received = all }) refl e)
   by_nodes next s t bytes rest m true nodes (Err reason) is spelled later e = absurd cc
   by_nodes next s t bytes rest m false nodes w is spelled later e = absurd cc
 
   by_end : (next : Next) (s t : HeavyState) (bytes rest : List ℕ) (w : Result (Unit {0}) Reason) → bytes ≡ spelling version messages.LevelEnd ++ rest
-      → step_says next rest (w >>= λ _. Ok (mores.Complete, ended s)) ≡ Ok t → IsReply version s bytes t
+      → step_says next rest (w >>= λ _. Ok (mores.Complete, ended s)) ≡ Ok t → IsReply version q.form s bytes t
   by_end next s t bytes rest (Err reason) spelled e = absurd cc
   by_end next s t bytes rest (Ok u) spelled e =
       let parts = at_end_parts (ended s) t rest e in
       record {
         frames = [];
-        are = All-nil (IsFrame version (s.level == 0));
+        are = All-nil (IsFrame version q.form (s.level == 0));
         spelled = spelled ∙ ap (λ b. spelling version messages.LevelEnd ++ b) parts.0 ∙ append-nil (spelling version messages.LevelEnd);
         next = ap (λ (u : HeavyState). u.level) (sym parts.1);
       }
 
-  by_message : (next : Next) (s t : HeavyState) (bytes rest : List ℕ) (m : Message) → Spelled version (R.place s) bytes m rest → ((u : HeavyState) → u.level ≡ s.level → next u rest ≡ Ok t → IsReply version u rest t)
-      → step_says next rest (heavy_step q s m) ≡ Ok t → IsReply version s bytes t
+  by_message : (next : Next) (s t : HeavyState) (bytes rest : List ℕ) (m : Message) → Spelled version (R.place s) bytes m rest → ((u : HeavyState) → u.level ≡ s.level → next u rest ≡ Ok t → IsReply version q.form u rest t)
+      → step_says next rest (heavy_step p q s m) ≡ Ok t → IsReply version q.form s bytes t
   by_message next s t bytes rest (messages.Leaves v) sp later e =
-      by_nodes next s t bytes rest (messages.Leaves v) (s.level == 0) (leaf_nodes v.items) (with_nodes q s.level s.known s.received (leaf_nodes v.items)) (λ at. (sp.has_spelling, at)) sp.spelled later e
+      by_nodes next s t bytes rest (messages.Leaves v) (are_counts q.form && (s.level == 0)) (leaf_nodes v.items) (with_nodes q s.level s.known s.received (leaf_nodes v.items)) (λ at. (sp.has_spelling, at, sp.in_range)) sp.spelled later e
+  by_message next s t bytes rest (messages.Marks v) sp later e =
+      by_nodes next s t bytes rest (messages.Marks v) (not (are_counts q.form) && (s.level == 0)) (mark_nodes p v.items) (with_nodes q s.level s.known s.received (mark_nodes p v.items)) (λ at. (sp.has_spelling, at, sp.in_range)) sp.spelled later e
   by_message next s t bytes rest (messages.Nodes v) sp later e =
-      by_nodes next s t bytes rest (messages.Nodes v) (not (s.level == 0)) v.items (with_nodes q s.level s.known s.received v.items) (λ at. (sp.has_spelling, at)) sp.spelled later e
+      by_nodes next s t bytes rest (messages.Nodes v) (not (s.level == 0)) v.items (with_nodes q s.level s.known s.received v.items) (λ at. (sp.has_spelling, at, sp.in_range)) sp.spelled later e
   by_message next s t bytes rest messages.LevelEnd sp later e = by_end next s t bytes rest (end_test q s.level (merged s.known s.received)) sp.spelled e
   by_message next s t bytes rest _ sp later e = absurd cc
 
-  by_frame : (next : Next) (s t : HeavyState) (bytes : List ℕ) → IsBytes bytes → ((u : HeavyState) (rest : List ℕ) → IsBytes rest → u.level ≡ s.level → next u rest ≡ Ok t → IsReply version u rest t)
-      → (r : Result (Message × List ℕ) WireFault) → read_frame version (R.place s) bytes ≡ r → frame_says R next s r ≡ Ok t → IsReply version s bytes t
+  by_frame : (next : Next) (s t : HeavyState) (bytes : List ℕ) → IsBytes bytes → ((u : HeavyState) (rest : List ℕ) → IsBytes rest → u.level ≡ s.level → next u rest ≡ Ok t → IsReply version q.form u rest t)
+      → (r : Result (Message × List ℕ) WireFault) → read_frame version (R.place s) bytes ≡ r → frame_says R next s r ≡ Ok t → IsReply version q.form s bytes t
   by_frame next s t bytes fine later (Err fault) is e = absurd cc
   by_frame next s t bytes fine later (Ok frame) is e =
       let rest = read_frame-rest version (R.place s) bytes frame.0 frame.1 is in
       let fine_rest = subst (λ (l : List ℕ). IsBytes l) (sym rest.1) (IsBytes-drop _ bytes fine) in
       by_message next s t bytes frame.1 frame.0 (read_frame-message version (R.place s) bytes frame.0 frame.1 fine is) (λ u same k. later u frame.1 fine_rest same k) e
 
-  from_back : (n : ℕ) (s t : HeavyState) (bytes : List ℕ) → IsBytes bytes → read_from R n s bytes ≡ Ok t → IsReply version s bytes t
+  from_back : (n : ℕ) (s t : HeavyState) (bytes : List ℕ) → IsBytes bytes → read_from R n s bytes ≡ Ok t → IsReply version q.form s bytes t
   unfolding read_from
   from_back zero s t bytes fine e = absurd cc
   from_back (suc n) s t bytes fine e =
       by_frame (read_from R n) s t bytes fine (λ u rest fine_rest same k. from_back n u t rest fine_rest k) (read_frame version (R.place s) bytes) refl e
 
   -- what is read as a whole reply
-  pub reply_back : (s t : HeavyState) (bytes : List ℕ) → IsBytes bytes → read_reply R s bytes ≡ Ok t → IsReply version s bytes t
+  pub reply_back : (s t : HeavyState) (bytes : List ℕ) → IsBytes bytes → read_reply R s bytes ≡ Ok t → IsReply version q.form s bytes t
   reply_back s t bytes fine e = from_back (length bytes) s t bytes fine e
 
   -- ---- replies one after another
 
   pub record AreReplies (j : ℕ) (rs : List ℕ) (replies : List (List ℕ)) : Type 0 where
     pub frames : List (List Message)
-    pub are : AreFrames version j frames
+    pub are : AreFrames version q.form j frames
     pub bytes : replies ≡ stated_replies version frames
     pub each : length frames ≡ length rs
 
@@ -128,7 +131,7 @@ module _ (version : Version) (p : ℕ) (q : HeavyQuestion) where
           let others = later u (reply.next ∙ ap (λ i. i + 1) at) k in
           record {
             frames = reply.frames ∷ others.frames;
-            are = (subst (λ i. All (IsFrame version (i == 0)) reply.frames) at reply.are, others.are);
+            are = (subst (λ i. All (IsFrame version q.form (i == 0)) reply.frames) at reply.are, others.are);
             bytes = ap (λ x. x ∷ more) reply.spelled ∙ ap (λ xs. stated_reply version reply.frames ∷ xs) others.bytes;
             each = omega (arith, others.each);
           }
@@ -150,7 +153,7 @@ module _ (asked : HeavyAsked) where
   by_run challenges replies answer depth fine stated (Ok t) is e =
       let back = run_back asked.version asked.modulus asked.query challenges t replies stated.all fine is in
       let judged = are_judged asked challenges back.frames depth back.are back.each in
-      let says = answered (heavy.verdict asked.modulus asked.query asked.root challenges (stated_nodes back.frames)) answer
+      let says = answered (heavy.verdict asked.modulus asked.query asked.root challenges (stated_nodes asked.modulus back.frames)) answer
       (sym judged ∙ ap (verdict (heavy_protocol asked) challenges) (sym back.bytes) ∙ stated.found) in (
         back.frames,
         record { each = back.are; bytes = back.bytes; all = back.each; found = says.0; passes = says.1.0; answer_is = says.1.1 },

@@ -1,5 +1,5 @@
 -- What a check of heavy hitters of the general talk stands for, after one call more.
-use Rattle.std.proofs.Common.{◌≡◌, ℕ, suc, ◌+◌, ◌-◌, ◌<◌, ◌≤◌, Bool, true, false, ◌||◌, Result, Ok, Err, IsErrAnd, List, [], ◌∷◌, ◌++◌, length, take, refl, sym, ap, subst, ◌∙◌, arith, length-append}
+use Rattle.std.proofs.Common.{◌≡◌, ℕ, suc, ◌+◌, ◌-◌, ◌<◌, ◌≤◌, Bool, true, false, ◌||◌, ◌&&◌, not, Result, Ok, Err, IsErrAnd, List, [], ◌∷◌, ◌++◌, length, take, refl, sym, ap, subst, ◌∙◌, arith, length-append}
 use Rattle.std.specs.Prelude.{◌==◌, nat_lt, slice_index, if◌then◌else◌}
 use Rattle.std.proofs.lemmas.Bool.{ne_eqb, ltb-true}
 use Rattle.sip_field.specs.Moduli.{m61_modulus}
@@ -7,6 +7,7 @@ use Rattle.sip_vector.specs.Steps.{◌>>=◌, needs}
 use Rattle.sip_vector.specs.declared.update.Entry.{Entry}
 use Rattle.arrayvec.specs.ArrayVec.{ArrayVec}
 use Rattle.sip_wire.specs.declared.message.Leaf.{Leaf}
+use Rattle.sip_wire.specs.declared.message.Mark.{Mark}
 use Rattle.sip_wire.specs.declared.message.Message.{Message}
 use Rattle.sip_wire.specs.declared.message.Message.TheVariants as messages
 use Rattle.sip_wire.specs.declared.message.Node.{Node}
@@ -21,7 +22,7 @@ use Rattle.sip_replies.proofs.Passing.{same_ok}
 use Rattle.sip_heavy.specs.AcceptsHeavy.{HeavyQuestion, is_next, end_test, heavy_entries, known_after, leaves_of, merged, most_nodes, nodes_above, with_nodes}
 use Rattle.sip_heavy.specs.Asking.{HeavyStands, phase_of}
 use Rattle.sip_heavy.specs.Checking.{Advances, AnswersAs, Begun, GivenNodes, HasTaken, Kept, Takes, nothing}
-use Rattle.sip_heavy.specs.Protocol.{HeavyAsked, HeavyState, end_step, ended, heavy_step, leaf_nodes, learns, nodes_step, nothing_came}
+use Rattle.sip_heavy.specs.Protocol.{HeavyAsked, HeavyState, end_step, ended, heavy_step, are_counts, leaf_nodes, mark_nodes, learns, nodes_step, nothing_came}
 use Rattle.sip_heavy.proofs.Given.{known_same, passed, refused}
 
 -- ---- the start
@@ -213,7 +214,7 @@ module _ (asked : HeavyAsked) (s : HeavyState) (c new : Kept) (places : List Ent
     -- what was found stays, above the lowest level
     pub found_stays : (c.level == 0) ≡ false → new.found ≡ c.found
     found_stays above = taken_then.1.1.found
-        ∙ ap (heavy_entries asked.query.at_least) (leaves_next stands.given.ended stands.given.received (leaves_of stands.given.ended) c.level stands.taken.level refl ∙ rw above refl)
+        ∙ ap (heavy_entries m61_modulus asked.query.form asked.query.at_least) (leaves_next stands.given.ended stands.given.received (leaves_of stands.given.ended) c.level stands.taken.level refl ∙ rw above refl)
         ∙ sym stands.taken.found
 
     pub end_taken : (shown_in : List Entry) → Advances c new 1 0 → new.spent ≡ false → new.known ≡ nodes_above m61_modulus (slice_index c.challenges c.level) nodes
@@ -245,15 +246,28 @@ module _ (asked : HeavyAsked) (s : HeavyState) (c new : Kept) (places : List Ent
 
 -- ---- a frame, by its kind
 
-pub leaves_step_is : (q : HeavyQuestion) (s : HeavyState) (c : Kept) (v : ArrayVec Leaf) → c.level ≡ s.level → (c.level == 0) ≡ true → heavy_step q s (messages.Leaves v) ≡ nodes_step q s (leaf_nodes v.items)
-leaves_step_is q s c v level at = let here : (s.level == 0) ≡ true = ap (λ j. j == 0) (sym level) ∙ at in rw here refl
+pub leaves_step_is : (p : ℕ) (q : HeavyQuestion) (s : HeavyState) (c : Kept) (v : ArrayVec Leaf) → c.form ≡ q.form → c.level ≡ s.level → (are_counts c.form && (c.level == 0)) ≡ true
+    → heavy_step p q s (messages.Leaves v) ≡ nodes_step q s (leaf_nodes v.items)
+leaves_step_is p q s c v form level at =
+    let here : (are_counts q.form && (s.level == 0)) ≡ true = ap (λ f. are_counts f && (s.level == 0)) (sym form) ∙ ap (λ j. are_counts c.form && (j == 0)) (sym level) ∙ at in
+    rw here refl
 
-pub nodes_step_is : (q : HeavyQuestion) (s : HeavyState) (c : Kept) (v : ArrayVec Node) → c.level ≡ s.level → (c.level == 0) ≡ false → heavy_step q s (messages.Nodes v) ≡ nodes_step q s v.items
-nodes_step_is q s c v level at = let here : (s.level == 0) ≡ false = ap (λ j. j == 0) (sym level) ∙ at in rw here refl
+pub marks_step_is : (p : ℕ) (q : HeavyQuestion) (s : HeavyState) (c : Kept) (v : ArrayVec Mark) → p ≡ m61_modulus → c.form ≡ q.form → c.level ≡ s.level → (not (are_counts c.form) && (c.level == 0)) ≡ true
+    → heavy_step p q s (messages.Marks v) ≡ nodes_step q s (mark_nodes m61_modulus v.items)
+marks_step_is p q s c v field form level at =
+    let here : (not (are_counts q.form) && (s.level == 0)) ≡ true = ap (λ f. not (are_counts f) && (s.level == 0)) (sym form) ∙ ap (λ j. not (are_counts c.form) && (j == 0)) (sym level) ∙ at in
+    rw here (ap (λ k. nodes_step q s (mark_nodes k v.items)) field)
+
+pub nodes_step_is : (p : ℕ) (q : HeavyQuestion) (s : HeavyState) (c : Kept) (v : ArrayVec Node) → c.level ≡ s.level → (c.level == 0) ≡ false → heavy_step p q s (messages.Nodes v) ≡ nodes_step q s v.items
+nodes_step_is p q s c v level at = let here : (s.level == 0) ≡ false = ap (λ j. j == 0) (sym level) ∙ at in rw here refl
 
 -- a step of a message is that of its frame
-pub of_message : (q : HeavyQuestion) (s : HeavyState) (m n : Message) (Stands : HeavyState → Type 0) (given : Result More Reason) (r : Result (More × HeavyState) Reason) → m ≡ n → heavy_step q s n ≡ r → Steps r Stands given → Steps (heavy_step q s m) Stands given
-of_message q s m n Stands given r same is steps = subst (λ k. Steps (heavy_step q s k) Stands given) (sym same) (subst (λ t. Steps t Stands given) (sym is) steps)
+pub of_message : (p : ℕ) (q : HeavyQuestion) (s : HeavyState) (m n : Message) (Stands : HeavyState → Type 0) (given : Result More Reason) (r : Result (More × HeavyState) Reason) → m ≡ n → heavy_step p q s n ≡ r → Steps r Stands given → Steps (heavy_step p q s m) Stands given
+of_message p q s m n Stands given r same is steps = subst (λ k. Steps (heavy_step p q s k) Stands given) (sym same) (subst (λ t. Steps t Stands given) (sym is) steps)
+
+pub length_marks : (p : ℕ) (ms : List Mark) → length (mark_nodes p ms) ≡ length ms
+length_marks p [] = refl
+length_marks p (m ∷ ms) = ap suc (length_marks p ms)
 
 pub length_leaves : (ls : List Leaf) → length (leaf_nodes ls) ≡ length ls
 length_leaves [] = refl

@@ -1,6 +1,7 @@
 -- The leaves and nodes of a frame: there is one at least, and their counts and hashes are elements.
 use Rattle.std.proofs.Common.{◌≡◌, ℕ, suc, ◌<◌, ◌≤◌, true, ◌&&◌, List, [], ◌∷◌, length, All, ap, sym, ◌∙◌, arith}
 use Rattle.std.specs.Prelude.{nat_le}
+use Rattle.std.specs.Int.{w64, cast_unsigned}
 use Rattle.std.specs.List.{flat_map}
 use Rattle.std.proofs.lemmas.Bool.{and_parts, ltb-true}
 use Rattle.std.proofs.lemmas.Bool.Decides.{nat_tests}
@@ -10,11 +11,12 @@ use Rattle.arrayvec.specs.ArrayVec.{ArrayVec}
 use Rattle.sip_field.specs.Moduli.{m61_modulus}
 use Rattle.sip_wire.specs.declared.kind.Kind.TheVariants as kinds
 use Rattle.sip_wire.specs.declared.message.Leaf.{Leaf}
+use Rattle.sip_wire.specs.declared.message.Mark.{Mark}
 use Rattle.sip_wire.specs.declared.message.Message.TheVariants as messages
 use Rattle.sip_wire.specs.declared.message.Node.{Node}
 use Rattle.sip_wire.specs.declared.version.Version.{Version}
-use Rattle.sip_wire.specs.Table.{Shape, is_element, leaf_fields, node_fields, repeat, shape}
-use Rattle.sip_wire.specs.Spelling.{all_hold, fits, fits_shape, has_room, leaf_numbers, node_numbers}
+use Rattle.sip_wire.specs.Table.{Shape, is_element, is_small, leaf_fields, mark_fields, node_fields, repeat, shape, stands_in}
+use Rattle.sip_wire.specs.Spelling.{all_hold, fits, fits_shape, has_room, leaf_numbers, mark_numbers, node_numbers}
 
 -- ---- the parts of a fit
 
@@ -69,3 +71,24 @@ nodes_spelled version v h =
     let parts = fit_parts (shape version kinds.Nodes) (length v.items) (flat_map node_numbers v.items) h in
     let small = small_nodes version v.items parts.1 in
     (at_least_one (length v.items) 256 parts.0, small.0, small.1)
+
+-- ---- marks
+
+first_mark : (item value weight : ℕ) (ns : List ℕ) (k : ℕ) → all_hold (repeat (suc k) mark_fields) (item ∷ value ∷ weight ∷ ns) ≡ true → (is_element weight ≡ true) × (all_hold (repeat k mark_fields) ns ≡ true)
+unfolding all_hold
+first_mark item value weight ns k h =
+    let a = and_parts (is_small value) (is_element weight && all_hold (repeat k mark_fields) ns) h in
+    and_parts (is_element weight) (all_hold (repeat k mark_fields) ns) a.1
+
+small_marks : (ms : List Mark) → all_hold (repeat (length ms) mark_fields) (flat_map mark_numbers ms) ≡ true → All (λ m. m.weight < m61_modulus) ms
+small_marks [] h = All-nil (λ m. m.weight < m61_modulus)
+small_marks (m ∷ ms) h =
+    let row = first_mark m.item (cast_unsigned w64 m.value) m.weight (flat_map mark_numbers ms) (length ms) (sym (ap (all_hold (repeat (suc (length ms)) mark_fields)) (flat_map-cons mark_numbers m ms)) ∙ h) in
+    All-cons (λ x. x.weight < m61_modulus) m ms (ltb-true m.weight m61_modulus row.0) (small_marks ms row.1)
+
+pub marks_spelled : (version : Version) (v : ArrayVec Mark) → fits version (messages.Marks v) ≡ true → (1 ≤ length v.items) × All (λ m. m.weight < m61_modulus) v.items
+unfolding fits
+marks_spelled version v h =
+    let parts = fit_parts (shape version kinds.Marks) (length v.items) (flat_map mark_numbers v.items) h in
+    let counted = and_parts (stands_in kinds.Marks version) (nat_le 1 (length v.items) && nat_le (length v.items) 256) parts.0 in
+    (at_least_one (length v.items) 256 counted.1, small_marks v.items parts.1)

@@ -11,6 +11,7 @@ use Rattle.sip_wire.specs.declared.version.Version.{Version}
 use Rattle.sip_replies.specs.Protocols.{Rules}
 use Rattle.sip_replies.specs.Replies.{Fault, in_round, learnt, read_reply, run_from}
 use Rattle.sip_replies.proofs.Passing.{step_passed, round_passed}
+use Rattle.sip_heavy.specs.declared.form.LeafForm.{LeafForm}
 use Rattle.sip_heavy.specs.AcceptsHeavy.{HeavyQuestion, merged, nodes_above, with_nodes, end_test, level_nodes, known_after, leaves_of}
 use Rattle.sip_heavy.specs.Protocol.{HeavyState, learns, heavy_rules}
 use Rattle.sip_heavy.proofs.ClearedLevels.{taken_same}
@@ -19,14 +20,14 @@ use Rattle.sip_heavy.proofs.ReadNodes.{nodes_said, reply_read}
 
 -- ---- the nodes of a strategy
 
-abbrev pub nodes_if : Version → Bool → Option (List ℕ) → Option (List Node)
-nodes_if version first None = None
-nodes_if version first (Some bytes) = Some (nodes_said version first bytes)
+abbrev pub nodes_if : ℕ → LeafForm → Version → Bool → Option (List ℕ) → Option (List Node)
+nodes_if p form version first None = None
+nodes_if p form version first (Some bytes) = Some (nodes_said p form version first bytes)
 
 -- those of the reply for each list of challenges; `first` is whether it is reply 0
-pub heard : Version → Bool → Strategy → List ℕ → Option (List Node)
-heard version first strategy [] = nodes_if version first (strategy [])
-heard version first strategy (x ∷ v) = heard version false (λ w. strategy (x ∷ w)) v
+pub heard : ℕ → LeafForm → Version → Bool → Strategy → List ℕ → Option (List Node)
+heard p form version first strategy [] = nodes_if p form version first (strategy [])
+heard p form version first strategy (x ∷ v) = heard p form version false (λ w. strategy (x ∷ w)) v
 
 -- a level before anything of it was received
 abbrev pub at_level : ℕ → List Node → List Node → HeavyState
@@ -82,11 +83,11 @@ module _ (version : Version) (p : ℕ) (q : HeavyQuestion) where
       }
 
   pub run_heard : (r : List ℕ) (j level : ℕ) (first : Bool) (known leaves : List Node) (strategy : Strategy) (all : List (List ℕ)) (t : HeavyState) → first ≡ (level == 0) → all_there (replies strategy r) ≡ Some all
-      → run_from R j r (at_level level known leaves) all ≡ Ok t → Heard level known leaves (replies (heard version first strategy) r) r t
+      → run_from R j r (at_level level known leaves) all ≡ Ok t → Heard level known leaves (replies (heard p q.form version first strategy) r) r t
   unfolding heard known_after
   run_heard [] j level first known leaves strategy all t is there e = by_all all there e
     where
-      by_all : (all : List (List ℕ)) → all_there (replies strategy []) ≡ Some all → run_from R j [] (at_level level known leaves) all ≡ Ok t → Heard level known leaves (replies (heard version first strategy) []) [] t
+      by_all : (all : List (List ℕ)) → all_there (replies strategy []) ≡ Some all → run_from R j [] (at_level level known leaves) all ≡ Ok t → Heard level known leaves (replies (heard p q.form version first strategy) []) [] t
       by_all [] k e =
           let same = run_none j [] (at_level level known leaves) t e in
           record {
@@ -104,5 +105,5 @@ module _ (version : Version) (p : ℕ) (q : HeavyQuestion) where
       let later : (level + 1 == 0) ≡ false = ne_eqb (level + 1) 0 (λ k. absurd (omega (arith, k))) in
       let others = run_heard r (j + 1) (level + 1) false (nodes_above p x (merged known reads.all)) (if level == 0 then reads.all else leaves) (λ v. strategy (x ∷ v)) f.more t (sym later) f.others
       (ap (λ (s : HeavyState). run_from R (j + 1) r (learns p s x) f.more) reads.same ∙ parts.rest) in
-      subst (λ os. Heard level known leaves os (x ∷ r) t) (sym (replies-more (heard version first strategy) x r))
-      (one_more level x known leaves (nodes_said version first f.received) reads.all (heard version first strategy []) (replies (heard version false (λ v. strategy (x ∷ v))) r) r t (ap (nodes_if version first) f.there) reads.taken reads.ends others)
+      subst (λ os. Heard level known leaves os (x ∷ r) t) (sym (replies-more (heard p q.form version first strategy) x r))
+      (one_more level x known leaves (nodes_said p q.form version first f.received) reads.all (heard p q.form version first strategy []) (replies (heard p q.form version false (λ v. strategy (x ∷ v))) r) r t (ap (nodes_if p q.form version first) f.there) reads.taken reads.ends others)

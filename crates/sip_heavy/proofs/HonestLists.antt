@@ -13,6 +13,7 @@ use Rattle.sip_vector.specs.Trees.{Counted, leaf, up3, augroot}
 use Rattle.sip_vector.proofs.Filters.{as_entry}
 use Rattle.sip_vector.proofs.TreeCounted.{length-up3}
 use Rattle.sip_wire.specs.declared.message.Node.{Node}
+use Rattle.sip_heavy.specs.declared.form.LeafForm.TheVariants as forms
 use Rattle.sip_heavy.specs.AcceptsHeavy.{HeavyQuestion, width, merged, with_nodes, end_test, level_nodes, nodes_above, known_after, top_test, verdict, heavy_entries, leaves_of, is_empty}
 use Rattle.sip_heavy.specs.Honest.{Proving, begun, shown_from, honest_lists, CanBeCounted, heavy_of}
 use Rattle.sip_heavy.specs.Rising.{Rises}
@@ -130,24 +131,24 @@ leaves_sum p (a ∷ numbers) strict =
     ∙ ap (λ z. pos (nat_abs a) +ℤ z) (leaves_sum p numbers (All-tail (λ b. pos 0 ≤ℤ b) a numbers strict))
 
 -- the heavy leaves are the heavy entries
-heavy_filtered : (t : ℕ) (xs : List Node) → heavy_entries t (filter (is_heavy t) xs) ≡ heavy_entries t xs
-heavy_filtered t [] = refl
-heavy_filtered t (x ∷ xs) = elim (leb_tells t x.count) [
+heavy_filtered : (p t : ℕ) (xs : List Node) → heavy_entries p forms.Count t (filter (is_heavy t) xs) ≡ heavy_entries p forms.Count t xs
+heavy_filtered p t [] = refl
+heavy_filtered p t (x ∷ xs) = elim (leb_tells t x.count) [
   | inl s ↦
       let heavy : nat_lt x.count t ≡ false = elim (ltb_tells x.count t) [ inl u ↦ absurd (omega (arith, s.1, u.1)) | inr u ↦ u.0 ] in
-      rw (heavy, s.0) (ap (λ es. (let e : Entry = record { index = x.index; value = pos x.count } in e) ∷ es) (heavy_filtered t xs))
+      rw (heavy, s.0) (ap (λ es. (let e : Entry = record { index = x.index; value = pos x.count } in e) ∷ es) (heavy_filtered p t xs))
   | inr s ↦
       let light : nat_lt x.count t ≡ true = lt-ltb x.count t s.1 in
-      rw (light, s.0) (heavy_filtered t xs)
+      rw (light, s.0) (heavy_filtered p t xs)
 ]
 
 pub heavy_numbers : (p t i : ℕ) (numbers : List ℤ) → All (λ a. pos 0 ≤ℤ a) numbers
-    → heavy_entries t (numbered i (map (leaf p) numbers)) ≡ filter (λ e. int_le (pos t) e.value) (map as_entry (enumerate_from i numbers))
+    → heavy_entries p forms.Count t (numbered i (map (leaf p) numbers)) ≡ filter (λ e. int_le (pos t) e.value) (map as_entry (enumerate_from i numbers))
 heavy_numbers p t i [] strict = refl
 heavy_numbers p t i (a ∷ numbers) strict =
     let is = whole_number a (All-head (λ b. pos 0 ≤ℤ b) a numbers strict) in
     let one : suc i ≡ i + 1 = omega arith in
-    let rest : heavy_entries t (numbered (suc i) (map (leaf p) numbers)) ≡ filter (λ e. int_le (pos t) e.value) (map as_entry (enumerate_from (i + 1) numbers)) = rw one (heavy_numbers p t (i + 1) numbers (All-tail (λ b. pos 0 ≤ℤ b) a numbers strict)) in
+    let rest : heavy_entries p forms.Count t (numbered (suc i) (map (leaf p) numbers)) ≡ filter (λ e. int_le (pos t) e.value) (map as_entry (enumerate_from (i + 1) numbers)) = rw one (heavy_numbers p t (i + 1) numbers (All-tail (λ b. pos 0 ≤ℤ b) a numbers strict)) in
     let same : int_le (pos t) a ≡ nat_le t (nat_abs a) = ap (int_le (pos t)) is in
     elim (cases_Bool (nat_le t (nat_abs a))) [
       | inl s ↦ rw (same, s) (rw (sym is) (ap (λ es. as_entry (i, a) ∷ es) rest))
@@ -176,7 +177,7 @@ top_passes q root x top is sum same reached =
     rw (is, heavy, eq-eqb (nat_abs x.count) q.total sum, eq-eqb x.hash root same) refl
 
 verdict_by : (p : ℕ) (q : HeavyQuestion) (root : ℕ) (challenges : List ℕ) (replies : List (List Node)) (top : List Node) → known_after p q 0 [] challenges replies ≡ Ok top → top_test q root top ≡ Ok tt
-    → verdict p q root challenges replies ≡ Ok (heavy_entries q.at_least (leaves_of replies))
+    → verdict p q root challenges replies ≡ Ok (heavy_entries p q.form q.at_least (leaves_of replies))
 unfolding verdict
 verdict_by p q root challenges replies top known test = rw (known, test) refl
 
@@ -184,15 +185,15 @@ verdict_by p q root challenges replies top known test = rw (known, test) refl
 
 module _ (p depth t n : ℕ) (numbers : List ℤ) (can : CanBeFound p depth t n numbers) where
   abbrev pub asked : HeavyQuestion
-  asked = record { depth = depth; at_least = t; total = n }
+  asked = record { form = forms.Count; depth = depth; at_least = t; total = n }
 
   pub total_is : counts (map (leaf p) numbers) ≡ n
   total_is = ap nat_abs (sym (leaves_sum p numbers can.counted.strict) ∙ can.counted.total)
 
-  pub stated : heavy_entries t (children t 0 (map (leaf p) numbers)) ≡ heavy_of t numbers
-  stated = sym (heavy_filtered t (children t 0 (map (leaf p) numbers)))
-      ∙ ap (heavy_entries t) (sym (heavy_is t (2 ^ (depth - 1)) 0 (map (leaf p) numbers) (length-map numbers (leaf p) ∙ can.counted.size ∙ two_halves depth can.counted.levels)))
-      ∙ heavy_filtered t (numbered 0 (map (leaf p) numbers))
+  pub stated : heavy_entries p forms.Count t (children t 0 (map (leaf p) numbers)) ≡ heavy_of t numbers
+  stated = sym (heavy_filtered p t (children t 0 (map (leaf p) numbers)))
+      ∙ ap (heavy_entries p forms.Count t) (sym (heavy_is t (2 ^ (depth - 1)) 0 (map (leaf p) numbers) (length-map numbers (leaf p) ∙ can.counted.size ∙ two_halves depth can.counted.levels)))
+      ∙ heavy_filtered p t (numbered 0 (map (leaf p) numbers))
       ∙ heavy_numbers p t 0 numbers can.counted.strict
 
   pub lists_accepted : (challenges : List ℕ) → length challenges ≡ depth → verdict p asked (augroot p numbers challenges).hash challenges (honest_lists p (begun p numbers t) challenges) ≡ Ok (heavy_of t numbers)

@@ -26,7 +26,9 @@ use Rattle.sip_replies.specs.Replies.{read_reply}
 use Rattle.sip_replies.proofs.Reading.{read_reply-step}
 use Rattle.sip_heavy.specs.AcceptsHeavy.{HeavyQuestion, most_nodes, is_next, leaf_node, merged, with_nodes, end_test}
 use Rattle.sip_heavy.specs.Honest.{leaf_frames, node_frames, leaf_of}
-use Rattle.sip_heavy.specs.Protocol.{HeavyState, leaf_nodes, nodes_step, ended, end_step, heavy_step, heavy_rules}
+use Rattle.sip_heavy.specs.declared.form.LeafForm.{LeafForm}
+use Rattle.sip_heavy.specs.declared.form.LeafForm.TheVariants as forms
+use Rattle.sip_heavy.specs.Protocol.{HeavyState, leaf_nodes, leaf_place, nodes_step, ended, end_step, heavy_step, heavy_rules}
 use Rattle.sip_heavy.proofs.HonestFrames.{IsLeafRow, IsNodeRow, leaves_fit, nodes_fit, end_fits, leaf_rows}
 use Rattle.sip_heavy.proofs.Taking.{with_nodes-append}
 use Rattle.sip_heavy.proofs.StatedFrames.{with_received}
@@ -77,7 +79,7 @@ module _ (version : Version) (p : ℕ) (q : HeavyQuestion) where
     pub fit : (xs : List X) → 0 < length xs → length xs ≤ k → All Row xs → IsTrue (fits version (frame xs))
     pub allowed : (before : List Node) (xs : List X) → IsTrue (allows (R.place (with_received s before)) (kind_of (frame xs)))
     pub range : (xs : List X) → InRange (frame xs)
-    pub step : (before : List Node) (xs : List X) → heavy_step q (with_received s before) (frame xs) ≡ nodes_step q (with_received s before) (nodes xs)
+    pub step : (before : List Node) (xs : List X) → heavy_step p q (with_received s before) (frame xs) ≡ nodes_step q (with_received s before) (nodes xs)
 
   module _ {X : Type 0} (frame : List X → Message) (nodes : List X → List Node) (k : ℕ) (Row : X → Type 0) (s : HeavyState) (is : IsFrame frame nodes k Row s) where
     frame_read : (before : List Node) (xs : List X) (rest : List ℕ) → 0 < length xs → length xs ≤ k → All Row xs → with_nodes q s.level s.known before (nodes xs) ≡ Ok (before ++ nodes xs)
@@ -110,11 +112,12 @@ module _ (version : Version) (p : ℕ) (q : HeavyQuestion) where
 
   -- either end of a level may stand in each reply
   end_allowed : (s : HeavyState) → IsTrue (allows (R.place s) (kind_of messages.LevelEnd))
-  end_allowed s = by_place (s.level == 0)
+  end_allowed s = by_place q.form (s.level == 0)
     where
-      by_place : (first : Bool) → IsTrue (allows (if first then places.Leaves else places.Nodes) (kind_of messages.LevelEnd))
-      by_place true = refl
-      by_place false = refl
+      by_place : (form : LeafForm) (first : Bool) → IsTrue (allows (if first then leaf_place form else places.Nodes) (kind_of messages.LevelEnd))
+      by_place forms.Count true = refl
+      by_place forms.Mark true = refl
+      by_place form false = refl
 
   end_read : (s : HeavyState) → end_test q s.level (merged s.known s.received) ≡ Ok tt → read_reply R s (flat_map (spelling version) (messages.LevelEnd ∷ [])) ≡ Ok (ended s)
   end_read s passes =
@@ -133,15 +136,15 @@ module _ (version : Version) (p : ℕ) (q : HeavyQuestion) where
   leaf_nodes-append [] ys = refl
   leaf_nodes-append (x ∷ xs) ys = ap (λ zs. leaf_node x.item x.count ∷ zs) (leaf_nodes-append xs ys)
 
-  leaves_are_frames : (s : HeavyState) → s.level ≡ 0 → IsFrame leaves_message leaf_nodes 512 (IsLeafRow version) s
-  leaves_are_frames s first = record {
+  leaves_are_frames : (s : HeavyState) → q.form ≡ forms.Count → s.level ≡ 0 → IsFrame leaves_message leaf_nodes 512 (IsLeafRow version) s
+  leaves_are_frames s form first = record {
     one = omega arith;
     none = refl;
     both = leaf_nodes-append;
     fit = leaves_fit version;
-    allowed = λ before xs. rw first refl;
+    allowed = λ before xs. rw (first, form) refl;
     range = λ xs. tt;
-    step = λ before xs. rw first refl;
+    step = λ before xs. rw (form, first) refl;
   }
 
   nodes_are_frames : (s : HeavyState) → (s.level == 0) ≡ false → IsFrame nodes_message (λ xs. xs) 256 (IsNodeRow version) s
@@ -156,11 +159,11 @@ module _ (version : Version) (p : ℕ) (q : HeavyQuestion) where
   }
 
   -- reply 0
-  pub leaves_read : (s : HeavyState) (shown : List Node) → s.level ≡ 0 → All (IsNodeRow version) shown → leaf_nodes (map leaf_of shown) ≡ shown → with_nodes q s.level s.known [] shown ≡ Ok shown
+  pub leaves_read : (s : HeavyState) (shown : List Node) → q.form ≡ forms.Count → s.level ≡ 0 → All (IsNodeRow version) shown → leaf_nodes (map leaf_of shown) ≡ shown → with_nodes q s.level s.known [] shown ≡ Ok shown
       → end_test q s.level (merged s.known shown) ≡ Ok tt → read_reply R (with_received s []) (flat_map (spelling version) (leaf_frames shown ++ messages.LevelEnd ∷ [])) ≡ Ok (ended (with_received s shown))
-  leaves_read s shown first rows whole passes ends =
+  leaves_read s shown form first rows whole passes ends =
       let ls = map leaf_of shown in
-      pieces_read leaves_message leaf_nodes 512 (IsLeafRow version) s (leaves_are_frames s first) ((length ls + 511) / 512) [] ls (messages.LevelEnd ∷ []) (omega arith) (omega arith) (leaf_rows version shown rows)
+      pieces_read leaves_message leaf_nodes 512 (IsLeafRow version) s (leaves_are_frames s form first) ((length ls + 511) / 512) [] ls (messages.LevelEnd ∷ []) (omega arith) (omega arith) (leaf_rows version shown rows)
       (ap (with_nodes q s.level s.known []) whole ∙ passes ∙ ap (λ xs. Ok xs) (sym whole))
       ∙ ap (λ xs. read_reply R (with_received s xs) (flat_map (spelling version) (messages.LevelEnd ∷ []))) whole
       ∙ end_read (with_received s shown) ends

@@ -14,6 +14,7 @@ use Rattle.sip_wire.specs.Versions.{deepest}
 use Rattle.sip_replies.specs.Protocols.{Rules}
 use Rattle.sip_replies.specs.Replies.{read_reply, run_from}
 use Rattle.sip_replies.proofs.Passing.{run_is, run_none}
+use Rattle.sip_heavy.specs.declared.form.LeafForm.TheVariants as forms
 use Rattle.sip_heavy.specs.AcceptsHeavy.{HeavyQuestion, merged, with_nodes, end_test}
 use Rattle.sip_heavy.specs.Honest.{Proving, learnt, is_first, proving, shown_from, opening_frames}
 use Rattle.sip_heavy.specs.Protocol.{HeavyState, heavy_rules}
@@ -94,7 +95,7 @@ first_is : (j : ℕ) → true ≡ (j == 0) → j ≡ 0
 first_is zero e = refl
 first_is (suc j) e = absurd (let f = later j in let g : suc j ≡ j + 1 = omega arith in let h : true ≡ (j + 1 == 0) = rw g at e in cc)
 
-module _ (version : Version) (p : ℕ) (q : HeavyQuestion) (some : 0 < p) (elements : p ≤ m61_modulus) (light : q.total < p) (shallow : q.depth ≤ deepest version) (one : 1 ≤ q.at_least) (reached : q.at_least ≤ q.total) where
+module _ (version : Version) (p : ℕ) (q : HeavyQuestion) (some : 0 < p) (elements : p ≤ m61_modulus) (light : q.total < p) (shallow : q.depth ≤ deepest version) (one : 1 ≤ q.at_least) (reached : q.at_least ≤ q.total) (form : q.form ≡ forms.Count) where
   abbrev R : Rules HeavyState
   R = heavy_rules version p q
 
@@ -128,7 +129,7 @@ module _ (version : Version) (p : ℕ) (q : HeavyQuestion) (some : 0 < p) (eleme
       → read_reply R (arrives p q.at_least j leaves is_leaf level []) (reply_of version (at q.at_least is_leaf level)) ≡ Ok (came j leaves is_leaf level)
   reply_read j leaves true level less stands =
       let s : HeavyState = arrives p q.at_least j leaves true level [] in
-      leaves_read version p q s (shown j leaves true level less stands) (first_is j stands.first) (shown_fit j leaves true level less stands) (leaves_back q.at_least 0 level (stands.leaves refl))
+      leaves_read version p q s (shown j leaves true level less stands) form (first_is j stands.first) (shown_fit j leaves true level less stands) (leaves_back q.at_least 0 level (stands.leaves refl))
       (shown_pass j leaves true level less stands) (shown_end j leaves true level less stands)
       ∙ ap (λ (xs : List Node). Ok (let x : HeavyState = record { level = j + 1; known = xs; received = []; leaves = if j == 0 then shown_from q.at_least true 0 level else leaves } in x)) (shown_merge j leaves true level less stands)
   reply_read j leaves false level less stands =

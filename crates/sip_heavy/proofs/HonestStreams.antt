@@ -12,6 +12,7 @@ use Rattle.sip_vector.proofs.Sides.{length-vector, total-is}
 use Rattle.sip_wire.specs.declared.version.Version.{Version}
 use Rattle.sip_wire.specs.Versions.{deepest}
 use Rattle.sip_replies.specs.Replies.{IsStated, IsAccepted}
+use Rattle.sip_heavy.specs.declared.form.LeafForm.TheVariants as forms
 use Rattle.sip_heavy.specs.AcceptsHeavy.{heavy_entries}
 use Rattle.sip_heavy.specs.Honest.{CanBeSent, heavy_of}
 use Rattle.sip_heavy.specs.Protocol.{heavy_asked, heavy_protocol}
@@ -38,17 +39,17 @@ legal_sent version depth n stream side legal strict levels shallow is =
 
 -- ---- below the threshold
 
-none_heavy : (t i : ℕ) (level : List Counted) → counts level < t → heavy_entries t (numbered i level) ≡ []
-none_heavy t i [] less = refl
-none_heavy t i (x ∷ level) less = elim (leb_tells t (nat_abs x.count)) [
+none_heavy : (p t i : ℕ) (level : List Counted) → counts level < t → heavy_entries p forms.Count t (numbered i level) ≡ []
+none_heavy p t i [] less = refl
+none_heavy p t i (x ∷ level) less = elim (leb_tells t (nat_abs x.count)) [
   | inl s ↦ absurd (omega (arith, s.1, less))
-  | inr s ↦ rw s.0 (none_heavy t (suc i) level (omega (arith, less)))
+  | inr s ↦ rw s.0 (none_heavy p t (suc i) level (omega (arith, less)))
 ]
 
 no_heavy : (p t n : ℕ) (numbers : List ℤ) → All (λ a. pos 0 ≤ℤ a) numbers → int_sum numbers ≡ pos n → n < t → heavy_of t numbers ≡ []
 no_heavy p t n numbers strict sum less =
     let same : counts (map (leaf p) numbers) ≡ n = ap nat_abs (sym (leaves_sum p numbers strict) ∙ sum) in
-    sym (heavy_numbers p t 0 numbers strict) ∙ none_heavy t 0 (map (leaf p) numbers) (omega (arith, same, less))
+    sym (heavy_numbers p t 0 numbers strict) ∙ none_heavy p t 0 (map (leaf p) numbers) (omega (arith, same, less))
 
 pub none_asked : (version : Version) (p hash depth t n : ℕ) (numbers : List ℤ) (challenges : List ℕ) → All (λ a. pos 0 ≤ℤ a) numbers → int_sum numbers ≡ pos n → n < t
     → IsAccepted (heavy_protocol (heavy_asked version p hash (int_sum numbers) depth t)) challenges [] (pairs (heavy_of t numbers))

@@ -18,6 +18,7 @@ use Rattle.sip_replies.specs.Replies.{read_reply, run, verdict, IsStated, IsAcce
 use Rattle.sip_replies.proofs.Fronts.{reply_front}
 use Rattle.sip_replies.proofs.Running.{run-fault}
 use Rattle.sip_replies.proofs.Turns.{closed_next}
+use Rattle.sip_heavy.specs.declared.form.LeafForm.TheVariants as forms
 use Rattle.sip_heavy.specs.AcceptsHeavy.{HeavyQuestion, top_test, heavy_entries}
 use Rattle.sip_heavy.specs.Honest.{learnt, proving, shown_from, honest_messages, honest_reply, honest_replies, CanBeSent, heavy_of}
 use Rattle.sip_heavy.specs.Protocol.{HeavyState, HeavyAsked, heavy_rules, heavy_asked, heavy_protocol}
@@ -40,7 +41,7 @@ arrives_known p t j leaves level [] = refl
 arrives_known p t j leaves level (r ∷ challenges) = arrives_known p t (j + 1) (if j == 0 then shown_from t false 0 level else leaves) (up3 p level r) challenges
 
 verdict_by : (asked : HeavyAsked) (challenges : List ℕ) (replies : List (List ℕ)) (s : HeavyState) → run (heavy_protocol asked).rules challenges replies ≡ Ok s → top_test asked.query asked.root s.known ≡ Ok tt
-    → verdict (heavy_protocol asked) challenges replies ≡ Ok (pairs (heavy_entries asked.query.at_least s.leaves))
+    → verdict (heavy_protocol asked) challenges replies ≡ Ok (pairs (heavy_entries asked.modulus asked.query.form asked.query.at_least s.leaves))
 verdict_by asked challenges replies s is test = rw (is, test) refl
 
 -- what is stated is accepted where something is asked
@@ -65,7 +66,7 @@ asked_of version p depth t n numbers can some reached = record { found = found_b
 
 module _ (version : Version) (p depth t n : ℕ) (numbers : List ℤ) (can : IsAsked version p depth t n numbers) where
   abbrev q : HeavyQuestion
-  q = record { depth = depth; at_least = t; total = n }
+  q = record { form = forms.Count; depth = depth; at_least = t; total = n }
 
   abbrev R : Rules HeavyState
   R = heavy_rules version p q
@@ -109,7 +110,7 @@ module _ (version : Version) (p depth t n : ℕ) (numbers : List ℤ) (can : IsA
   pub all_run : (revealed more : List ℕ) → length revealed ≤ depth → run R (revealed ++ more) (replies revealed) ≡ Ok (arrives p t 0 [] true leaves revealed)
   all_run revealed more short =
       ap (run R (revealed ++ more)) (replies_are revealed)
-      ∙ runs version p q can.found.counted.modulus can.elements can.found.counted.light can.shallow can.found.some can.found.reached revealed more 0 [] true leaves (omega (arith, short)) begin_stands
+      ∙ runs version p q can.found.counted.modulus can.elements can.found.counted.light can.shallow can.found.some can.found.reached refl revealed more 0 [] true leaves (omega (arith, short)) begin_stands
 
   -- there is one for each challenge, and one challenge more gives one reply more
   pub replies_count : (challenges : List ℕ) → length (replies challenges) ≡ length challenges
@@ -135,7 +136,7 @@ module _ (version : Version) (p depth t n : ℕ) (numbers : List ℤ) (can : IsA
       let passes = top_passes q (augroot p numbers cs).hash top.0 (fold (up3 p) leaves cs) top.1 top.2 same can.found.reached in
       verdict_by (asked_by cs (pos n)) cs (replies cs) s is
       (ap (top_test q (augroot p numbers cs).hash) (arrives_known p t 1 (shown_from t true 0 leaves) (up3 p leaves r) challenges) ∙ passes)
-      ∙ ap (λ xs. Ok (pairs (heavy_entries t xs))) (arrives_leaves p t 0 (shown_from t true 0 leaves) (up3 p leaves r) challenges)
+      ∙ ap (λ xs. Ok (pairs (heavy_entries p forms.Count t xs))) (arrives_leaves p t 0 (shown_from t true 0 leaves) (up3 p leaves r) challenges)
       ∙ ap (λ es. Ok (pairs es)) (stated p depth t n numbers can.found)
 
   sent_accepted : (challenges : List ℕ) → length challenges ≡ depth → IsAccepted (heavy_protocol (asked_by challenges (pos n))) challenges (replies challenges) (pairs (heavy_of t numbers))

@@ -13,6 +13,7 @@ use Rattle.sip_wire.specs.declared.message.Reason.{Reason}
 use Rattle.sip_wire.specs.declared.message.Reason.TheVariants as reasons
 use Rattle.sip_replies.specs.Replies.{Fault, in_round}
 use Rattle.sip_replies.proofs.Passing.{step_passed}
+use Rattle.sip_heavy.specs.declared.form.LeafForm.{LeafForm}
 use Rattle.sip_heavy.specs.AcceptsHeavy.{HeavyQuestion, most_nodes, width, nodes_below, nodes_from, merged, are_pairs, pair_counts, is_empty, nodes_above, is_next, with_nodes, end_test, level_nodes, known_after, heavy_entries, leaves_of}
 use Rattle.sip_heavy.specs.Checking.{Kept, GivenNodes, HasTaken, AnswersAs, asked_of, passing_all, keeping, folded}
 use Rattle.sip_heavy.specs.Rising.{Rises}
@@ -141,14 +142,14 @@ merged_none [] = refl
 merged_none (x ∷ xs) = ap (λ ys. x ∷ ys) (merged_none xs)
 
 -- they are those of the first reply
-found_next : (p : ℕ) (q : HeavyQuestion) (challenges : List ℕ) (ended : List (List Node)) (received known : List Node) (level t : ℕ) (found : List Entry) → level ≡ length ended
-    → known_after p q 0 [] challenges ended ≡ Ok known → found ≡ heavy_entries t (leaves_of ended)
-    → (if level == 0 then heavy_entries t (merged known received) else found) ≡ heavy_entries t (leaves_of (ended ++ received ∷ []))
+found_next : (p : ℕ) (q : HeavyQuestion) (challenges : List ℕ) (ended : List (List Node)) (received known : List Node) (level t : ℕ) (form : LeafForm) (found : List Entry) → level ≡ length ended
+    → known_after p q 0 [] challenges ended ≡ Ok known → found ≡ heavy_entries p form t (leaves_of ended)
+    → (if level == 0 then heavy_entries p form t (merged known received) else found) ≡ heavy_entries p form t (leaves_of (ended ++ received ∷ []))
 unfolding known_after
-found_next p q challenges [] received known level t found at is same =
+found_next p q challenges [] received known level t form found at is same =
     let none : [] ≡ known = cc in
-    rw (at, ← none) (ap (heavy_entries t) (merged_none received))
-found_next p q challenges (first ∷ ended) received known level t found at is same =
+    rw (at, ← none) (ap (heavy_entries p form t) (merged_none received))
+found_next p q challenges (first ∷ ended) received known level t form found at is same =
     let other : (suc (length ended) == 0) ≡ false = ne_eqb (suc (length ended)) 0 (λ e. absurd (omega (arith, e))) in
     rw (at, other) same
 
@@ -173,7 +174,7 @@ module _ (p : ℕ) (q : HeavyQuestion) (root : ℕ) (challenges : List ℕ) (g :
   end_says_so = ap (λ (a : HeavyQuestion). end_test a c.level (merged c.known g.received)) (sym taken.asked) ∙ ap (end_test (asked_of c) c.level) nodes_are
 
   HasTaken-ended : c.level < length c.challenges → end_test q c.level (merged c.known g.received) ≡ Ok tt
-      → HasTaken p q root challenges (record { ended = g.ended ++ g.received ∷ []; received = [] }) (folded p (keeping (passing_all c)))
+      → HasTaken p q root challenges (record { ended = g.ended ++ g.received ∷ []; received = [] }) (folded p (keeping p (passing_all c)))
   HasTaken-ended left is =
       let passed = ended_within q c.level (merged c.known g.received) is in
       let deep : length c.challenges ≡ q.depth = ap (λ (a : HeavyQuestion). a.depth) taken.asked in
@@ -204,14 +205,14 @@ module _ (p : ℕ) (q : HeavyQuestion) (root : ℕ) (challenges : List ℕ) (g :
         last = λ i. refl;
         below = λ i above_it. refl;
         found =
-            ap (λ (a : HeavyQuestion). if c.level == 0 then heavy_entries a.at_least (passing_all c).nodes else c.found) taken.asked
-            ∙ ap (λ ns. if c.level == 0 then heavy_entries q.at_least ns else c.found) (sym nodes_are)
-            ∙ found_next p q challenges g.ended g.received c.known c.level q.at_least c.found taken.level taken.ended taken.found;
+            ap (λ (a : HeavyQuestion). if c.level == 0 then heavy_entries p a.form a.at_least (passing_all c).nodes else c.found) taken.asked
+            ∙ ap (λ ns. if c.level == 0 then heavy_entries p q.form q.at_least ns else c.found) (sym nodes_are)
+            ∙ found_next p q challenges g.ended g.received c.known c.level q.at_least q.form c.found taken.level taken.ended taken.found;
         rises = subst (λ ns. Rises 0 (width q (c.level + 1)) (nodes_above p (slice_index c.challenges c.level) ns)) nodes_are above;
       }
 
   -- the answer to a level's end
-  pub end_answers : (result : Result (Unit {0}) Reason) (new : Kept) → c.level < length c.challenges → result ≡ end_test (asked_of (passing_all c)) c.level (passing_all c).nodes → IfOk result (λ _. new ≡ folded p (keeping (passing_all c)))
+  pub end_answers : (result : Result (Unit {0}) Reason) (new : Kept) → c.level < length c.challenges → result ≡ end_test (asked_of (passing_all c)) c.level (passing_all c).nodes → IfOk result (λ _. new ≡ folded p (keeping p (passing_all c)))
       → AnswersAs (end_test q c.level (merged c.known g.received)) (λ _. HasTaken p q root challenges (record { ended = g.ended ++ g.received ∷ []; received = [] }) new) result
   end_answers (Err reason) new left is same = subst (λ (r : Result (Unit {0}) Reason). AnswersAs r (λ _. HasTaken p q root challenges (record { ended = g.ended ++ g.received ∷ []; received = [] }) new) (Err reason)) (is ∙ sym end_says_so) refl
   end_answers (Ok done) new left is same =

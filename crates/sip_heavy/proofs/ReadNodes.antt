@@ -1,6 +1,6 @@
 -- The nodes that the bytes of a reply state, and what a reply that passes makes of a state.
 use Rattle.std.proofs.Common.{◌≡◌, ℕ, zero, suc, ◌+◌, Bool, true, false, not, Result, Ok, Err, List, [], ◌∷◌, ◌++◌, length, refl, ap, sym, subst, ◌∙◌}
-use Rattle.std.specs.Prelude.{◌==◌, ◌||◌, nat_lt, if◌then◌else◌}
+use Rattle.std.specs.Prelude.{◌==◌, ◌||◌, ◌&&◌, nat_lt, if◌then◌else◌}
 use Rattle.sip_vector.specs.Steps.{◌>>=◌, needs}
 use Rattle.sip_wire.specs.declared.kind.Place.{Place}
 use Rattle.sip_wire.specs.declared.kind.Place.TheVariants as places
@@ -17,33 +17,35 @@ use Rattle.sip_replies.specs.declared.check.More.TheVariants as mores
 use Rattle.sip_replies.specs.Protocols.{Rules}
 use Rattle.sip_replies.specs.Replies.{step_says, frame_says, read_from, read_reply}
 use Rattle.sip_replies.proofs.Passing.{at_end_is}
+use Rattle.sip_heavy.specs.declared.form.LeafForm.{LeafForm}
 use Rattle.sip_heavy.specs.AcceptsHeavy.{HeavyQuestion, most_nodes, is_next, merged, with_nodes, end_test}
-use Rattle.sip_heavy.specs.Protocol.{HeavyState, leaf_nodes, nodes_step, ended, heavy_step, heavy_rules}
+use Rattle.sip_heavy.specs.Protocol.{HeavyState, are_counts, leaf_place, leaf_nodes, mark_nodes, nodes_step, ended, heavy_step, heavy_rules}
 
 -- ---- what bytes say
 
 -- what frames may stand in reply 0 and in the others
-abbrev pub place_of : Bool → Place
-place_of first = if first then places.Leaves else places.Nodes
+abbrev pub place_of : LeafForm → Bool → Place
+place_of form first = if first then leaf_place form else places.Nodes
 
 -- the nodes of a frame, before those of the frames behind it
-abbrev in_message : List Node → Message → List Node
-in_message more (messages.Leaves v) = leaf_nodes v.items ++ more
-in_message more (messages.Nodes v) = v.items ++ more
-in_message more _ = []
+abbrev in_message : ℕ → List Node → Message → List Node
+in_message p more (messages.Leaves v) = leaf_nodes v.items ++ more
+in_message p more (messages.Marks v) = mark_nodes p v.items ++ more
+in_message p more (messages.Nodes v) = v.items ++ more
+in_message p more _ = []
 
-abbrev in_frame : (List ℕ → List Node) → Result (Message × List ℕ) WireFault → List Node
-in_frame next (Err fault) = []
-in_frame next (Ok frame) = in_message (next frame.1) frame.0
+abbrev in_frame : ℕ → (List ℕ → List Node) → Result (Message × List ℕ) WireFault → List Node
+in_frame p next (Err fault) = []
+in_frame p next (Ok frame) = in_message p (next frame.1) frame.0
 
 -- those of at most n frames
-unfoldable pub nodes_in : Version → Bool → ℕ → List ℕ → List Node
-nodes_in version first zero bytes = []
-nodes_in version first (suc n) bytes = in_frame (nodes_in version first n) (read_frame version (place_of first) bytes)
+unfoldable pub nodes_in : ℕ → LeafForm → Version → Bool → ℕ → List ℕ → List Node
+nodes_in p form version first zero bytes = []
+nodes_in p form version first (suc n) bytes = in_frame p (nodes_in p form version first n) (read_frame version (place_of form first) bytes)
 
 -- those of a reply
-unfoldable pub nodes_said : Version → Bool → List ℕ → List Node
-nodes_said version first bytes = nodes_in version first (length bytes) bytes
+unfoldable pub nodes_said : ℕ → LeafForm → Version → Bool → List ℕ → List Node
+nodes_said p form version first bytes = nodes_in p form version first (length bytes) bytes
 
 -- ---- nodes one after another
 
@@ -111,10 +113,12 @@ module _ (version : Version) (p : ℕ) (q : HeavyQuestion) where
     same = at_end_is (ended s) t rest e;
   }
 
-  by_message : (next : HeavyState → List ℕ → Result HeavyState Reason) (rest : List ℕ) (s t : HeavyState) (more : List Node) (m : Message) → step_says next rest (heavy_step q s m) ≡ Ok t
-      → ((u : HeavyState) → u.level ≡ s.level → next u rest ≡ Ok t → Reads q u more t) → Reads q s (in_message more m) t
+  by_message : (next : HeavyState → List ℕ → Result HeavyState Reason) (rest : List ℕ) (s t : HeavyState) (more : List Node) (m : Message) → step_says next rest (heavy_step p q s m) ≡ Ok t
+      → ((u : HeavyState) → u.level ≡ s.level → next u rest ≡ Ok t → Reads q u more t) → Reads q s (in_message p more m) t
   by_message next rest s t more (messages.Leaves v) e others =
-      step_goes next rest s t (leaf_nodes v.items) more (gated (s.level == 0) reasons.BadKind next rest (nodes_step q s (leaf_nodes v.items)) t e) others
+      step_goes next rest s t (leaf_nodes v.items) more (gated (are_counts q.form && (s.level == 0)) reasons.BadKind next rest (nodes_step q s (leaf_nodes v.items)) t e) others
+  by_message next rest s t more (messages.Marks v) e others =
+      step_goes next rest s t (mark_nodes p v.items) more (gated (not (are_counts q.form) && (s.level == 0)) reasons.BadKind next rest (nodes_step q s (mark_nodes p v.items)) t e) others
   by_message next rest s t more (messages.Nodes v) e others =
       step_goes next rest s t v.items more (gated (not (s.level == 0)) reasons.BadKind next rest (nodes_step q s v.items) t e) others
   by_message next rest s t more messages.LevelEnd e others = end_read next rest s t (end_test q s.level (merged s.known s.received)) refl e
@@ -135,22 +139,21 @@ module _ (version : Version) (p : ℕ) (q : HeavyQuestion) where
   by_message next rest s t more (messages.AskMoment side degree) e others = absurd cc
   by_message next rest s t more (messages.Held held) e others = absurd cc
   by_message next rest s t more (messages.Recall count) e others = absurd cc
-  by_message next rest s t more (messages.Marks v) e others = absurd cc
   by_message next rest s t more (messages.Power v) e others = absurd cc
 
   by_frame : (next : HeavyState → List ℕ → Result HeavyState Reason) (nodes : List ℕ → List Node) (s t : HeavyState) (r : Result (Message × List ℕ) WireFault) → frame_says R next s r ≡ Ok t
-      → ((u : HeavyState) (rest : List ℕ) → u.level ≡ s.level → next u rest ≡ Ok t → Reads q u (nodes rest) t) → Reads q s (in_frame nodes r) t
+      → ((u : HeavyState) (rest : List ℕ) → u.level ≡ s.level → next u rest ≡ Ok t → Reads q u (nodes rest) t) → Reads q s (in_frame p nodes r) t
   by_frame next nodes s t (Err fault) e others = absurd cc
   by_frame next nodes s t (Ok frame) e others = by_message next frame.1 s t (nodes frame.1) frame.0 e (λ u same k. others u frame.1 same k)
 
-  read_more : (n : ℕ) (s t : HeavyState) (bytes : List ℕ) → read_from R n s bytes ≡ Ok t → Reads q s (nodes_in version (s.level == 0) n bytes) t
+  read_more : (n : ℕ) (s t : HeavyState) (bytes : List ℕ) → read_from R n s bytes ≡ Ok t → Reads q s (nodes_in p q.form version (s.level == 0) n bytes) t
   unfolding read_from nodes_in
   read_more zero s t bytes e = absurd cc
   read_more (suc n) s t bytes e =
-      by_frame (read_from R n) (nodes_in version (s.level == 0) n) s t (read_frame version (place_of (s.level == 0)) bytes) e
-      (λ u rest same k. subst (λ l. Reads q u (nodes_in version (l == 0) n rest) t) same (read_more n u t rest k))
+      by_frame (read_from R n) (nodes_in p q.form version (s.level == 0) n) s t (read_frame version (place_of q.form (s.level == 0)) bytes) e
+      (λ u rest same k. subst (λ l. Reads q u (nodes_in p q.form version (l == 0) n rest) t) same (read_more n u t rest k))
 
   -- what a whole reply states
-  pub reply_read : (first : Bool) (s t : HeavyState) (bytes : List ℕ) → first ≡ (s.level == 0) → read_reply R s bytes ≡ Ok t → Reads q s (nodes_said version first bytes) t
+  pub reply_read : (first : Bool) (s t : HeavyState) (bytes : List ℕ) → first ≡ (s.level == 0) → read_reply R s bytes ≡ Ok t → Reads q s (nodes_said p q.form version first bytes) t
   unfolding nodes_said
-  reply_read first s t bytes is e = subst (λ b. Reads q s (nodes_in version b (length bytes) bytes) t) (sym is) (read_more (length bytes) s t bytes e)
+  reply_read first s t bytes is e = subst (λ b. Reads q s (nodes_in p q.form version b (length bytes) bytes) t) (sym is) (read_more (length bytes) s t bytes e)

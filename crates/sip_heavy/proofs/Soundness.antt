@@ -2,16 +2,16 @@
 use Rattle.std.proofs.Common.{◌≡◌, ℕ, ◌+◌, ◌-◌, ◌^◌, ◌<◌, ◌≤◌, List, [], ◌∷◌, length, take, drop, All, None, Bool, true, false, Result, Ok, leb, ◌&&◌, ◌||◌, not, refl, sym, ap, arith, inl, inr, length-append}
 use Rattle.std.proofs.lemmas.List.{length-drop}
 use Rattle.std.proofs.lemmas.List.Elements.{All-nil, All-cons, All-take, All-drop, All-append, All-same, All-push}
-use Rattle.std.specs.Prelude.{nat_lt, nat_le, slice_index}
+use Rattle.std.specs.Prelude.{nat_lt, nat_le, int_le, pos, slice_index}
 use Rattle.std.specs.List.{list_all}
-use Rattle.std.proofs.lemmas.Bool.{ltb-true, leb-true, and_parts}
-use Rattle.std.proofs.lemmas.Bool.Decides.{leb_tells}
+use Rattle.std.proofs.lemmas.Bool.{cases_Bool, ltb-true, leb-true, and_parts}
 use Rattle.sip_vector.specs.Steps.{◌>>=◌, needs}
 use Rattle.sip_vector.specs.declared.update.Entry.{Entry}
 use Rattle.sip_wire.specs.declared.message.Node.{Node}
 use Rattle.sip_wire.specs.declared.message.Reason.{Reason}
 use Rattle.sip_wire.specs.declared.message.Reason.TheVariants as reasons
-use Rattle.sip_heavy.specs.AcceptsHeavy.{HeavyQuestion, most_nodes, known_after, are_pairs, is_empty, end_test, nodes_below, pair_counts, joined, nodes_above, heavy_entries}
+use Rattle.sip_heavy.specs.declared.form.LeafForm.{LeafForm}
+use Rattle.sip_heavy.specs.AcceptsHeavy.{HeavyQuestion, most_nodes, known_after, are_pairs, is_empty, end_test, nodes_below, pair_counts, joined, nodes_above, heavy_entries, value_of}
 use Rattle.sip_heavy.specs.Checking.{Kept, IsSound, HasTaken, nothing, asked_of, passing, passing_all, folded, with_node, node_test}
 use Rattle.sip_heavy.proofs.Merging.{take_below, length_below}
 
@@ -139,11 +139,11 @@ HasTaken-nothing p q root challenges c asked most at for level known nodes passe
 }
 
 -- the heavy leaves are leaves
-pub length_heavy : (t : ℕ) (xs : List Node) → length (heavy_entries t xs) ≤ length xs
-length_heavy t [] = omega arith
-length_heavy t (x ∷ xs) = elim (leb_tells t x.count) [
-  | inl s ↦ rw s.0 (omega (arith, length_heavy t xs))
-  | inr s ↦ rw s.0 (omega (arith, length_heavy t xs))
+pub length_heavy : (p : ℕ) (form : LeafForm) (t : ℕ) (xs : List Node) → length (heavy_entries p form t xs) ≤ length xs
+length_heavy p form t [] = omega arith
+length_heavy p form t (x ∷ xs) = elim (cases_Bool (int_le (pos t) (value_of p form x))) [
+  | inl s ↦ rw s (omega (arith, length_heavy p form t xs))
+  | inr s ↦ rw s (omega (arith, length_heavy p form t xs))
 ]
 
 -- the heavy leaves make no difference

@@ -36,17 +36,17 @@ module _ (asked : HeavyAsked) where
 
   -- the leaves in the end, where these were stated before
   abbrev leaves_then : ℕ → List Node → List (List Message) → List Node
-  leaves_then j leaves replies = if j == 0 then leaves_of (stated_nodes replies) else leaves
+  leaves_then j leaves replies = if j == 0 then leaves_of (stated_nodes p replies) else leaves
 
   -- the tests behind the last reply, by bytes and by lists
   abbrev ended_bytes : ℕ → Result HeavyState Fault → Result Answer Fault
   ended_bytes d r = r >>= λ t. in_round d (heavy_finish asked t)
 
   abbrev ended_lists : ℕ → List Node → Result (List Node) Fault → Result Answer Fault
-  ended_lists d leaves r = as_answer (r >>= λ top. in_round d (top_test q asked.root top) >>= λ _. Ok (heavy_entries q.at_least leaves))
+  ended_lists d leaves r = as_answer (r >>= λ top. in_round d (top_test q asked.root top) >>= λ _. Ok (heavy_entries p q.form q.at_least leaves))
 
   top_same : (d : ℕ) (leaves : List Node) (r : Result (Unit {0}) Reason)
-      → in_round d (r >>= λ _. Ok (pairs (heavy_entries q.at_least leaves))) ≡ as_answer (in_round d r >>= λ _. Ok (heavy_entries q.at_least leaves))
+      → in_round d (r >>= λ _. Ok (pairs (heavy_entries p q.form q.at_least leaves))) ≡ as_answer (in_round d r >>= λ _. Ok (heavy_entries p q.form q.at_least leaves))
   top_same d leaves (Ok u) = refl
   top_same d leaves (Err reason) = refl
 
@@ -76,39 +76,39 @@ module _ (asked : HeavyAsked) where
       by_nodes (Ok all) is = by_ends all (sym (taken_same q j known [] xs all is)) (end_test q j (merged known all))
       by_nodes (Err reason) is = refl
 
-  replies_from : (j d : ℕ) (rs : List ℕ) (known leaves : List Node) (replies : List (List Message)) → AreFrames version j replies → length replies ≡ length rs → ((j == 0) ≡ true → leaves ≡ [])
-      → ended_bytes d (run_from R j rs (at_level j known leaves) (stated_replies version replies)) ≡ ended_lists d (leaves_then j leaves replies) (known_after p q j known rs (stated_nodes replies))
+  replies_from : (j d : ℕ) (rs : List ℕ) (known leaves : List Node) (replies : List (List Message)) → AreFrames version q.form j replies → length replies ≡ length rs → ((j == 0) ≡ true → leaves ≡ [])
+      → ended_bytes d (run_from R j rs (at_level j known leaves) (stated_replies version replies)) ≡ ended_lists d (leaves_then j leaves replies) (known_after p q j known rs (stated_nodes p replies))
   unfolding run_from known_after
   replies_from j d [] known leaves [] are same none =
-      ap (λ ys. in_round d (top_test q asked.root known >>= λ _. Ok (pairs (heavy_entries q.at_least ys)))) (leaves_now j leaves none) ∙ top_same d (leaves_then j leaves []) (top_test q asked.root known)
+      ap (λ ys. in_round d (top_test q asked.root known >>= λ _. Ok (pairs (heavy_entries p q.form q.at_least ys)))) (leaves_now j leaves none) ∙ top_same d (leaves_then j leaves []) (top_test q asked.root known)
   replies_from j d [] known leaves (frames ∷ more) are same none = absurd (omega (arith, same))
   replies_from j d (r ∷ rs) known leaves [] are same none = absurd (omega (arith, same))
   replies_from j d (r ∷ rs) known leaves (frames ∷ more) are same none =
-      let xs = flat_map nodes_of frames in
+      let xs = flat_map (nodes_of p) frames in
       let later : (j + 1 == 0) ≡ false = ne_eqb (j + 1) 0 (λ e. absurd (omega (arith, e))) in
       ap (λ (w : Result HeavyState Reason). ended_bytes d (in_round j w >>= λ t. run_from R (j + 1) rs (learns p t r) (stated_replies version more))) (reply_is version p q (at_level j known leaves) frames are.0)
-      ∙ one_reply j r d rs known leaves xs (stated_replies version more) (stated_nodes more) (leaves_then j leaves (frames ∷ more)) (λ all is.
+      ∙ one_reply j r d rs known leaves xs (stated_replies version more) (stated_nodes p more) (leaves_then j leaves (frames ∷ more)) (λ all is.
       replies_from (j + 1) d rs (nodes_above p r (merged known all)) (if j == 0 then all else leaves) more are.1 (omega (arith, same)) (λ e. absurd (let k = sym later ∙ e in cc))
-      ∙ ap (λ ys. ended_lists d ys (known_after p q (j + 1) (nodes_above p r (merged known all)) rs (stated_nodes more))) (rw (later, is) refl))
+      ∙ ap (λ ys. ended_lists d ys (known_after p q (j + 1) (nodes_above p r (merged known all)) rs (stated_nodes p more))) (rw (later, is) refl))
 
-  pub are_judged : (challenges : List ℕ) (replies : List (List Message)) → q.depth ≡ length challenges → AreFrames version 0 replies → length replies ≡ length challenges
-      → verdict (heavy_protocol asked) challenges (stated_replies version replies) ≡ as_answer (heavy.verdict p q asked.root challenges (stated_nodes replies))
+  pub are_judged : (challenges : List ℕ) (replies : List (List Message)) → q.depth ≡ length challenges → AreFrames version q.form 0 replies → length replies ≡ length challenges
+      → verdict (heavy_protocol asked) challenges (stated_replies version replies) ≡ as_answer (heavy.verdict p q asked.root challenges (stated_nodes p replies))
   unfolding heavy.verdict
   are_judged challenges replies depth are same =
       replies_from 0 (length challenges) challenges [] [] replies are same (λ e. refl)
-      ∙ ap (λ d. ended_lists d (leaves_of (stated_nodes replies)) (known_after p q 0 [] challenges (stated_nodes replies))) (sym depth)
+      ∙ ap (λ d. ended_lists d (leaves_of (stated_nodes p replies)) (known_after p q 0 [] challenges (stated_nodes p replies))) (sym depth)
 
   ok_same : (w : Result (List Entry) Fault) → is_ok (as_answer w) ≡ is_ok w
   ok_same (Ok es) = refl
   ok_same (Err fault) = refl
 
   -- so they are accepted where the lists are
-  pub are_accepted : (challenges : List ℕ) (replies : List (List Message)) → q.depth ≡ length challenges → reaches q ≡ true → AreFrames version 0 replies → length replies ≡ length challenges
-      → accepts (heavy_protocol asked) challenges (stated_replies version replies) ≡ heavy.accepts p q asked.root challenges (stated_nodes replies)
+  pub are_accepted : (challenges : List ℕ) (replies : List (List Message)) → q.depth ≡ length challenges → reaches q ≡ true → AreFrames version q.form 0 replies → length replies ≡ length challenges
+      → accepts (heavy_protocol asked) challenges (stated_replies version replies) ≡ heavy.accepts p q asked.root challenges (stated_nodes p replies)
   are_accepted challenges replies depth reached are same =
       let bytes = stated_replies version replies in
-      let lists = stated_nodes replies in
-      let long : length bytes ≡ length lists = length-map replies (stated_reply version) ∙ sym (length-map replies (flat_map nodes_of)) in
+      let lists = stated_nodes p replies in
+      let long : length bytes ≡ length lists = length-map replies (stated_reply version) ∙ sym (length-map replies (flat_map (nodes_of p))) in
       let ok : is_ok (verdict (heavy_protocol asked) challenges bytes) ≡ is_ok (heavy.verdict p q asked.root challenges lists) =
       ap is_ok (are_judged challenges replies depth are same) ∙ ok_same (heavy.verdict p q asked.root challenges lists) in
       rw reached (

@@ -8,6 +8,7 @@ use Rattle.std.proofs.lemmas.List.Elements.{recursion_from_All}
 use Rattle.sip_vector.specs.Streams.{int_sum}
 use Rattle.sip_vector.specs.Trees.{Counted, leaf, parent, up3, augroot}
 use Rattle.sip_vector.proofs.TreeCounted.{length-up3}
+use Rattle.sip_heavy.specs.Counting.{top_of}
 use Rattle.sip_heavy.specs.Protocol.{count_of}
 use Rattle.sip_heavy.specs.TrueNodes.{Spot, spot_above, level_above}
 use Rattle.sip_heavy.proofs.AcceptedLevels.{level_after}
@@ -20,10 +21,10 @@ abbrev pub true_level : ℕ → List Counted → ℕ → Spot
 true_level p level i = spot_of (get_or level i (leaf p (pos 0)))
 
 -- a count is not negative
-abbrev IsCount : Counted → Type 0
+abbrev pub IsCount : Counted → Type 0
 IsCount c = (n : ℕ) × (c.count ≡ pos n)
 
-abbrev AreCounts : List Counted → Type 0
+abbrev pub AreCounts : List Counted → Type 0
 AreCounts = AllByRecursion IsCount
 
 -- ---- one level
@@ -113,16 +114,37 @@ count_is_sum numbers strict = count_positive (int_sum numbers) (sum_positive num
 pub root_counts_all : (p : ℕ) (numbers : List ℤ) (v : List ℕ) → length numbers ≡ 2 ^ length v → (augroot p numbers v).count ≡ int_sum numbers
 root_counts_all p numbers v long = top_sum p v (map (leaf p) numbers) (length-map numbers (leaf p) ∙ long) ∙ ap int_sum (counts_of_leaves p numbers)
 
-module _ (p : ℕ) (numbers : List ℤ) (v : List ℕ) (long : length numbers ≡ 2 ^ length v) (strict : All (λ a. pos 0 ≤ℤ a) numbers) where
-  leaves_long : length (map (leaf p) numbers) ≡ 2 ^ length v
-  leaves_long = length-map numbers (leaf p) ∙ long
+-- leaves that count have no sum below 0
+counts_positive : (level : List Counted) → AreCounts level → AllByRecursion (λ a. pos 0 ≤ℤ a) (counts_of level)
+unfolding counts_of
+counts_positive [] all = tt
+counts_positive (c ∷ level) all = (rw all.0.1 (omega (arith, ints)), counts_positive level all.1)
 
-  at_top : level_after p v (true_level p (map (leaf p) numbers)) 0 ≡ spot_of (augroot p numbers v)
-  at_top = top_after p v (map (leaf p) numbers) leaves_long (leaves_count p numbers (recursion_from_All (λ a. pos 0 ≤ℤ a) numbers strict))
+-- the sum of all counts
+abbrev pub sum_of : List Counted → ℕ
+sum_of leaves = count_of (int_sum (map (λ c. c.count) leaves))
 
-  -- the top has the hash of the augmented root and the numbers' sum
-  pub top_hash : (level_after p v (true_level p (map (leaf p) numbers)) 0).0 ≡ (augroot p numbers v).hash
+count_is : (z : ℤ) → pos 0 ≤ℤ z → (n : ℕ) × (z ≡ pos n)
+count_is (pos n) least = (n, refl)
+count_is (negsuc n) least = absurd (omega (arith, ints, least))
+
+pub sum_is : (leaves : List Counted) → AreCounts leaves → (n : ℕ) × (int_sum (map (λ c. c.count) leaves) ≡ pos n)
+unfolding counts_of
+sum_is leaves are = count_is (int_sum (counts_of leaves)) (sum_positive (counts_of leaves) (counts_positive leaves are))
+
+-- of leaves that count numbers
+pub sum_of_counts : (p : ℕ) (numbers : List ℤ) → sum_of (map (leaf p) numbers) ≡ count_of (int_sum numbers)
+unfolding counts_of
+sum_of_counts p numbers = ap (λ zs. count_of (int_sum zs)) (counts_of_leaves p numbers)
+
+module _ (p : ℕ) (leaves : List Counted) (v : List ℕ) (long : length leaves ≡ 2 ^ length v) (are : AreCounts leaves) where
+  at_top : level_after p v (true_level p leaves) 0 ≡ spot_of (top_of p leaves v)
+  at_top = top_after p v leaves long are
+
+  -- the top has the root's hash and the sum of all counts
+  pub top_hash : (level_after p v (true_level p leaves) 0).0 ≡ (top_of p leaves v).hash
   top_hash = ap (λ (s : Spot). s.0) at_top
 
-  pub top_count : (level_after p v (true_level p (map (leaf p) numbers)) 0).1 ≡ count_of (int_sum numbers)
-  top_count = ap (λ (s : Spot). s.1) at_top ∙ ap nat_abs (root_counts_all p numbers v long) ∙ count_is_sum numbers strict
+  pub top_count : (level_after p v (true_level p leaves) 0).1 ≡ sum_of leaves
+  unfolding counts_of
+  top_count = ap (λ (s : Spot). s.1) at_top ∙ ap nat_abs (top_sum p v leaves long) ∙ count_positive (int_sum (counts_of leaves)) (sum_positive (counts_of leaves) (counts_positive leaves are))

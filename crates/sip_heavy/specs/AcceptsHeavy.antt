@@ -1,7 +1,8 @@
 -- The check of heavy hitters over lists of nodes by level: what is known of a level is merged with
 -- what was received of it, and each pair of siblings becomes a known node of the level above.
 use Rattle.std.specs.Prelude.{ℕ, ◌+◌, ◌-◌, ◌*◌, ◌/◌, ◌%◌, ◌^◌, ◌==◌, Bool, true, false, not, ◌&&◌}
-use Rattle.std.specs.Prelude.{◌||◌, nat_lt, nat_le, pos, nat_abs, List, [], ◌∷◌, ◌++◌, length}
+use Rattle.std.specs.Prelude.{◌||◌, nat_lt, nat_le, ℤ, pos, ◌-ℤ◌, int_le, nat_abs, List, [], ◌∷◌}
+use Rattle.std.specs.Prelude.{◌++◌, length}
 use Rattle.std.specs.Prelude.{Result, Ok, Err, is_ok, if◌then◌else◌}
 use Rattle.std.specs.List.{list_all, list_any}
 use Rattle.sip_vector.specs.Steps.{◌>>=◌, needs}
@@ -11,14 +12,22 @@ use Rattle.sip_wire.specs.declared.message.Node.{Node}
 use Rattle.sip_wire.specs.declared.message.Reason.{Reason}
 use Rattle.sip_wire.specs.declared.message.Reason.TheVariants as reasons
 use Rattle.sip_replies.specs.Replies.{Fault, in_round}
+use Rattle.sip_heavy.specs.declared.form.LeafForm.{LeafForm}
+use Rattle.sip_heavy.specs.declared.form.LeafForm.TheVariants as forms
 
 -- ---- a query
 
--- the depth, the threshold T, and the side's total n
+-- what leaves have, the depth, the threshold T, and the sum n of all counts
 pub record HeavyQuestion : Type 0 where
+  pub form : LeafForm
   pub depth : ℕ
   pub at_least : ℕ
   pub total : ℕ
+
+-- the query for the entries of at least t, by leaves whose counts have this sum
+abbrev pub asking : LeafForm → ℕ → ℕ → ℕ → HeavyQuestion
+asking form depth t total =
+    record { form = form; depth = depth; at_least = t; total = total }
 
 -- the greatest number of nodes of a level, 2 * floor(n / T)
 abbrev pub most_nodes : HeavyQuestion → ℕ
@@ -134,13 +143,22 @@ top_test q root (x ∷ more) = do
   _ ← needs (x.count == q.total) reasons.Total
   needs (x.hash == root) reasons.Root
 
--- the leaves with a count of at least this, as entries
-abbrev pub heavy_entries : ℕ → List Node → List Entry
-heavy_entries t [] = []
-heavy_entries t (x ∷ xs) =
-    if nat_le t x.count
-    then record { index = x.index; value = pos x.count } ∷ heavy_entries t xs
-    else heavy_entries t xs
+-- the number of least size that has this residue
+abbrev pub signed : ℕ → ℕ → ℤ
+signed p h = if nat_le (h % p) ((p - 1) / 2) then pos (h % p) else pos (h % p) -ℤ pos p
+
+-- the entry that a leaf stands for: a count is one, and of a mark the hash is its residue
+abbrev pub value_of : ℕ → LeafForm → Node → ℤ
+value_of p forms.Count x = pos x.count
+value_of p forms.Mark x = signed p x.hash
+
+-- the leaves whose entry is at least this, as entries
+abbrev pub heavy_entries : ℕ → LeafForm → ℕ → List Node → List Entry
+heavy_entries p form t [] = []
+heavy_entries p form t (x ∷ xs) =
+    if int_le (pos t) (value_of p form x)
+    then record { index = x.index; value = value_of p form x } ∷ heavy_entries p form t xs
+    else heavy_entries p form t xs
 
 -- what reply 0 states
 abbrev pub leaves_of : List (List Node) → List Node
@@ -153,7 +171,7 @@ unfoldable pub verdict : ℕ → HeavyQuestion → ℕ → List ℕ → List (Li
 verdict p q root challenges replies = do
   top ← known_after p q 0 [] challenges replies
   _ ← in_round q.depth (top_test q root top)
-  Ok (heavy_entries q.at_least (leaves_of replies))
+  Ok (heavy_entries p q.form q.at_least (leaves_of replies))
 
 -- there is a reply for each challenge, and no fault
 abbrev pub accepts : ℕ → HeavyQuestion → ℕ → List ℕ → List (List Node) → Bool

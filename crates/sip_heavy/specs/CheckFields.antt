@@ -8,6 +8,7 @@ use Rattle.sip_heavy.specs.declared.check.HeavyCheck.TheInside.{Inside}
 abbrev pub kept_in : {F : Type 0} {cap : ℕ} {field : Field F} {tests : Tests F}
     → Inside F cap field tests → Kept
 kept_in c = record {
+  form = c.form;
   challenges = c.root.seat;
   hash = c.root.hash;
   total = c.total;

@@ -9,6 +9,7 @@ use Rattle.sip_wire.specs.declared.message.Node.{Node}
 use Rattle.sip_wire.specs.declared.message.Reason.{Reason}
 use Rattle.sip_wire.specs.declared.message.Reason.TheVariants as reasons
 use Rattle.sip_replies.specs.Rising.{is_above}
+use Rattle.sip_heavy.specs.declared.form.LeafForm.{LeafForm}
 use Rattle.sip_heavy.specs.Rising.{Rises}
 use Rattle.sip_heavy.specs.AcceptsHeavy.{HeavyQuestion, most_nodes, width, nodes_below, merged}
 use Rattle.sip_heavy.specs.AcceptsHeavy.{nodes_above, known_after, with_nodes, heavy_entries}
@@ -28,6 +29,7 @@ pub record Space : Type 0 where
 -- so far, among them the first `passed` known ones. `room` is how many nodes each list has room
 -- for.
 pub record Kept : Type 0 where
+  pub form : LeafForm
   pub challenges : List ℕ
   pub hash : ℕ
   pub total : ℕ
@@ -98,7 +100,7 @@ with_node c x = record c { nodes = c.nodes ++ x ∷ []; last = Some x.index }
 -- the query that a check was started for
 abbrev pub asked_of : Kept → HeavyQuestion
 asked_of c =
-    record { depth = length c.challenges; at_least = c.at_least; total = c.total }
+    record { form = c.form; depth = length c.challenges; at_least = c.at_least; total = c.total }
 
 -- all known nodes were passed
 abbrev pub passing_all : Kept → Kept
@@ -108,9 +110,9 @@ passing_all c = record c {
 }
 
 -- the heavy leaves, kept at the end of the lowest level
-abbrev pub keeping : Kept → Kept
-keeping c = record c {
-  found = if c.level == 0 then heavy_entries c.at_least c.nodes else c.found;
+abbrev pub keeping : ℕ → Kept → Kept
+keeping p c = record c {
+  found = if c.level == 0 then heavy_entries p c.form c.at_least c.nodes else c.found;
 }
 
 -- the level above, by the level's own challenge
@@ -155,7 +157,7 @@ pub record HasTaken (p : ℕ) (q : HeavyQuestion) (root : ℕ) (challenges : Lis
   pub below : (i : ℕ) → is_above c.last i ≡ true
       → list_all (λ k. nat_lt k.index i) (take c.passed c.known) ≡ true
   pub rises : Rises 0 (width q c.level) c.known
-  pub found : c.found ≡ heavy_entries q.at_least (leaves_of g.ended)
+  pub found : c.found ≡ heavy_entries p q.form q.at_least (leaves_of g.ended)
 
 -- A call answers as the definition of its test does: with its reason, or with what is taken then.
 abbrev pub AnswersAs : {X : Type 0} → Result X Reason → (X → Type 0)

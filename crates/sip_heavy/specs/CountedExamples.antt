@@ -11,3 +11,7 @@ misplaced = pos 0 ∷ pos 0 ∷ pos 4 ∷ pos 0 ∷ []
 abbrev pub says_first : List ℕ → Option (List Node)
 says_first [] = Some (leaf 0 4 ∷ leaf 1 0 ∷ [])
 says_first (r ∷ _) = Some (node 1 0 0 ∷ [])
+
+-- the marks of value 1 and weight 2 at both items
+abbrev pub says_ones : List ℕ → Option (List Node)
+says_ones _ = Some (node 0 1 2 ∷ node 1 1 2 ∷ [])

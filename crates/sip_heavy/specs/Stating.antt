@@ -1,6 +1,6 @@
 -- What whole replies state, as bytes: nodes in frames, by level.
-use Rattle.std.specs.Prelude.{◌≡◌, ℕ, ◌+◌, ◌==◌, Bool, false, not, List, [], ◌∷◌, ◌++◌, All, length}
-use Rattle.std.specs.Prelude.{map, Result, Ok, Err, IsTrue}
+use Rattle.std.specs.Prelude.{◌≡◌, ℕ, ◌+◌, ◌==◌, Bool, false, not, ◌&&◌, List, [], ◌∷◌, ◌++◌, All}
+use Rattle.std.specs.Prelude.{length, map, Result, Ok, Err, IsTrue}
 use Rattle.std.specs.List.{flat_map}
 use Rattle.sip_vector.specs.declared.update.Entry.{Entry}
 use Rattle.sip_vector.specs.Answers.{Answer, pairs}
@@ -10,36 +10,42 @@ use Rattle.sip_wire.specs.declared.message.Message.TheVariants as messages
 use Rattle.sip_wire.specs.declared.message.Node.{Node}
 use Rattle.sip_wire.specs.declared.version.Version.{Version}
 use Rattle.sip_wire.specs.Spelling.{fits, spelling}
+use Rattle.sip_wire.specs.Values.{InRange}
 use Rattle.sip_wire.specs.declared.message.Reason.{Reason}
 use Rattle.sip_replies.specs.Replies.{Fault, at_end, read_reply}
+use Rattle.sip_heavy.specs.declared.form.LeafForm.{LeafForm}
 use Rattle.sip_heavy.specs.AcceptsHeavy.{verdict}
-use Rattle.sip_heavy.specs.Protocol.{HeavyAsked, HeavyState, ended, heavy_rules, leaf_nodes}
+use Rattle.sip_heavy.specs.Protocol.{HeavyAsked, HeavyState, are_counts, ended, heavy_rules}
+use Rattle.sip_heavy.specs.Protocol.{leaf_nodes, mark_nodes}
 
 -- ---- frames
 
 -- the nodes of a frame
-abbrev pub nodes_of : Message → List Node
-nodes_of (messages.Leaves v) = leaf_nodes v.items
-nodes_of (messages.Nodes v) = v.items
-nodes_of _ = []
+abbrev pub nodes_of : ℕ → Message → List Node
+nodes_of p (messages.Leaves v) = leaf_nodes v.items
+nodes_of p (messages.Marks v) = mark_nodes p v.items
+nodes_of p (messages.Nodes v) = v.items
+nodes_of p _ = []
 
--- leaves stand in reply 0, nodes in the others
-abbrev pub stands_in : Bool → Message → Bool
-stands_in is_first (messages.Leaves v) = is_first
-stands_in is_first (messages.Nodes v) = not is_first
-stands_in is_first _ = false
+-- leaves stand in reply 0, as counts or as marks, nodes in the others
+abbrev pub stands_in : LeafForm → Bool → Message → Bool
+stands_in form is_first (messages.Leaves v) = are_counts form && is_first
+stands_in form is_first (messages.Marks v) = not (are_counts form) && is_first
+stands_in form is_first (messages.Nodes v) = not is_first
+stands_in form is_first _ = false
 
 -- a frame of nodes, with a spelling, that stands in reply 0 or in the others
-abbrev pub IsFrame : Version → Bool → Message → Type 0
-IsFrame version is_first m = IsTrue (fits version m) × IsTrue (stands_in is_first m)
+abbrev pub IsFrame : Version → LeafForm → Bool → Message → Type 0
+IsFrame version form is_first m =
+    IsTrue (fits version m) × IsTrue (stands_in form is_first m) × InRange m
 
 -- ---- replies
 
 -- so do the frames of each reply, from reply j on
-abbrev pub AreFrames : Version → ℕ → List (List Message) → Type 0
-AreFrames version j [] = Unit {0}
-AreFrames version j (frames ∷ more) =
-    All (IsFrame version (j == 0)) frames × AreFrames version (j + 1) more
+abbrev pub AreFrames : Version → LeafForm → ℕ → List (List Message) → Type 0
+AreFrames version form j [] = Unit {0}
+AreFrames version form j (frames ∷ more) =
+    All (IsFrame version form (j == 0)) frames × AreFrames version form (j + 1) more
 
 -- the frames of a reply, and the end of its level
 abbrev pub stated_reply : Version → List Message → List ℕ
@@ -50,8 +56,8 @@ abbrev pub stated_replies : Version → List (List Message) → List (List ℕ)
 stated_replies version replies = map (stated_reply version) replies
 
 -- the nodes that replies state, by level
-abbrev pub stated_nodes : List (List Message) → List (List Node)
-stated_nodes replies = map (flat_map nodes_of) replies
+abbrev pub stated_nodes : ℕ → List (List Message) → List (List Node)
+stated_nodes p replies = map (flat_map (nodes_of p)) replies
 
 -- ---- what it comes to
 
@@ -63,12 +69,12 @@ as_answer (Err fault) = Err fault
 -- These replies state nodes in these frames, by level; the heavy leaves among them are the answer.
 pub record States (asked : HeavyAsked) (challenges : List ℕ) (replies : List (List ℕ))
     (answer : Answer) (frames : List (List Message)) : Type 0 where
-  pub each : AreFrames asked.version 0 frames
+  pub each : AreFrames asked.version asked.query.form 0 frames
   pub bytes : replies ≡ stated_replies asked.version frames
   pub all : length frames ≡ length challenges
   pub found : List Entry
-  pub passes : verdict asked.modulus asked.query asked.root challenges (stated_nodes frames)
-      ≡ Ok found
+  pub passes : verdict asked.modulus asked.query asked.root challenges
+      (stated_nodes asked.modulus frames) ≡ Ok found
   pub answer_is : answer ≡ pairs found
 
 -- ---- bytes that are still being read

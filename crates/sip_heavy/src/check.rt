@@ -1,24 +1,24 @@
 //! The verifier's check of heavy hitters, level by level in reserved space.
 
-ghost use Rattle.std.specs.Prelude.{◌≡◌, ℕ, ◌+◌, ◌-◌, ◌*◌, ◌/◌, ◌%◌, ◌^◌, ◌<◌, ◌≤◌, ◌==◌, ◌&&◌};
-ghost use Rattle.std.specs.Prelude.{◌||◌, not, true, false, nat_lt, nat_le, nat_abs, pos, ◌≤ℤ◌};
-ghost use Rattle.std.specs.Prelude.{slice_index, List, [], ◌∷◌, ◌++◌, length, drop, is_err, IfOk};
-ghost use Rattle.std.specs.List.{list_all};
-ghost use Rattle.sip_replies.specs.Rising.{is_above};
-ghost use Rattle.sip_heavy.specs.AcceptsHeavy.{HeavyQuestion, are_pairs, end_test, is_empty};
-ghost use Rattle.sip_heavy.specs.AcceptsHeavy.{leaf_node, merged, nodes_above, pair_counts};
-ghost use Rattle.sip_heavy.specs.AcceptsHeavy.{top_test};
-ghost use Rattle.sip_heavy.specs.Checking.{Advances, AnswersAs, Begun, GivenNodes, HasTaken, Kept};
-ghost use Rattle.sip_heavy.specs.Checking.{asked_of, begins_with, folded, keeping, node_test};
-ghost use Rattle.sip_heavy.specs.Checking.{Takes, nothing, passing, passing_all, with_node};
+ghost use Rattle.std.specs.Prelude.{◌≡◌, ℕ, ◌+◌, ◌*◌, ◌/◌, ◌^◌, ◌<◌, ◌≤◌, ◌==◌, ◌&&◌};
+ghost use Rattle.std.specs.Prelude.{not, false, nat_le, nat_abs, pos, ◌≤ℤ◌, slice_index, List, []};
+ghost use Rattle.std.specs.Prelude.{◌∷◌, ◌++◌, length, is_err, IfOk};
+ghost use Rattle.sip_field.specs.Residue.{residue};
+ghost use Rattle.sip_heavy.specs.declared.form.LeafForm.TheVariants as forms;
+ghost use Rattle.sip_heavy.specs.AcceptsHeavy.{HeavyQuestion, asking, end_test, leaf_node};
+ghost use Rattle.sip_heavy.specs.AcceptsHeavy.{merged, nodes_above, top_test};
+ghost use Rattle.sip_heavy.specs.Checking.{Advances, AnswersAs, Begun, GivenNodes, HasTaken};
+ghost use Rattle.sip_heavy.specs.Checking.{Takes, asked_of, nothing};
+ghost use Rattle.sip_heavy.specs.Protocol.{are_counts, leaf_place};
 
-use crate::level::{are_heavy, are_pairs, are_within, fold_pairs, move_below, put_heavy};
+mod steps;
+
+use crate::form::LeafForm;
 use crate::space::HeavySpace;
 use sip_field::Field;
-use sip_replies::is_above;
 use sip_tree::AugRoot;
 use sip_vector::Entry;
-use sip_wire::{Node, Reason};
+use sip_wire::{Node, Place, Reason};
 use std::marker::Model;
 
 /// The check of the replies to one query for heavy hitters: the entries of at least a threshold.
@@ -32,6 +32,7 @@ use std::marker::Model;
 /// `reveal`, each `node`, and `level_end`; at last `finish`. A refusal spends the check.
 #[derive(Drop)]
 pub struct HeavyCheck<F: Field, const CAP: usize> {
+    form: LeafForm,
     at_least: u64,
     // The side's total.
     total: u64,
@@ -81,11 +82,8 @@ impl<F: Field, const CAP: usize> HeavyCheck<F, CAP> {
         requires least { 1 ≤ at_least }
         requires total { pos at_least ≤ℤ root.now.total }
         requires room { 2 * (nat_abs root.now.total / at_least) ≤ space.nodes }
-        ensures taken { let asked : HeavyQuestion = record {
-          depth = length root.now.seat;
-          at_least = at_least;
-          total = nat_abs root.now.total;
-        } in
+        ensures taken { let asked = asking forms.Count (length root.now.seat) at_least
+            (nat_abs root.now.total) in
             HasTaken F.MODULUS asked root.now.hash root.now.seat nothing result }
         ensures begun { Begun root.now.seat space.nodes result }
     {
@@ -102,11 +100,7 @@ impl<F: Field, const CAP: usize> HeavyCheck<F, CAP> {
         requires least { 1 ≤ at_least }
         requires small { total < 2 ^ 61 }
         requires room { 2 * (total / at_least) ≤ space.nodes }
-        ensures taken { let asked : HeavyQuestion = record {
-          depth = length root.now.seat;
-          at_least = at_least;
-          total = total;
-        } in
+        ensures taken { let asked = asking forms.Count (length root.now.seat) at_least total in
             HasTaken F.MODULUS asked root.now.hash root.now.seat nothing result }
         ensures begun { Begun root.now.seat space.nodes result }
     {
@@ -120,6 +114,7 @@ impl<F: Field, const CAP: usize> HeavyCheck<F, CAP> {
         level.clear();
         found.clear();
         HeavyCheck {
+            form: LeafForm::Count,
             at_least,
             total,
             most: 2 * (total / at_least) as usize,
@@ -152,6 +147,30 @@ impl<F: Field, const CAP: usize> HeavyCheck<F, CAP> {
             index: item,
             hash: count,
             count,
+        });
+        self.spent = taken.is_err();
+        taken
+    }
+
+    /// Takes a leaf of reply 0 that has a value and a weight: the reasons are those of `leaf`.
+    ///
+    /// No `times`, and constant time.
+    pub fn mark(&mut self, item: u64, value: i64, weight: u64) -> Result<(), Reason>
+        requires unspent { self.old.spent ≡ false }
+        requires lowest { self.old.level ≡ 0 }
+        requires small { weight < F.MODULUS }
+        ensures answers { Takes F.MODULUS self.old (record {
+          index = item;
+          hash = residue F.MODULUS value;
+          count = weight;
+        } ∷ []) self.new result }
+        ensures advances { Advances self.old self.new 0 0 }
+        ensures spent { self.new.spent ≡ is_err result }
+    {
+        let taken = self.take(Node {
+            index: item,
+            hash: F::of_signed(value).number(),
+            count: weight,
         });
         self.spent = taken.is_err();
         taken
@@ -280,6 +299,36 @@ impl<F: Field, const CAP: usize> HeavyCheck<F, CAP> {
         self.total >= self.at_least
     }
 
+    // Where leaves stand.
+    pub(crate) fn leaf_place(&self) -> Place
+        ensures { result ≡ leaf_place self.now.form }
+    {
+        match self.form {
+            LeafForm::Count => Place::Leaves,
+            LeafForm::Mark => Place::Marks,
+        }
+    }
+
+    // Whether counts come next.
+    pub(crate) fn awaits_counts(&self) -> bool
+        ensures { result ≡ (are_counts self.now.form && (self.now.level == 0)) }
+    {
+        match self.form {
+            LeafForm::Count => self.level == 0,
+            LeafForm::Mark => false,
+        }
+    }
+
+    // Whether marks come next.
+    pub(crate) fn awaits_marks(&self) -> bool
+        ensures { result ≡ (not (are_counts self.now.form) && (self.now.level == 0)) }
+    {
+        match self.form {
+            LeafForm::Count => false,
+            LeafForm::Mark => self.level == 0,
+        }
+    }
+
     // Whether the nodes that come next are leaves.
     pub(crate) fn is_lowest(&self) -> bool
         ensures { result ≡ (self.now.level == 0) }
@@ -314,154 +363,6 @@ impl<F: Field, const CAP: usize> HeavyCheck<F, CAP> {
             Some(_) => Ok(()),
         }
     }
-
-    // Takes a node behind those received before it.
-    fn take(&mut self, node: Node) -> Result<(), Reason>
-        requires { node.count < 2 ^ 61 }
-        ensures tested { result ≡ node_test (passing self.old node.index) node }
-        ensures taken { IfOk result (λ _. self.new
-            ≡ with_node (passing self.old node.index) node) }
-        ensures advances { Advances self.old self.new 0 0 }
-    {
-        self.pass_below(node.index);
-        self.test_node(node)?;
-        self.push(node);
-        Ok(())
-    }
-
-    // Whether a node may come, the known nodes below its index being passed.
-    fn test_node(&self, node: Node) -> Result<(), Reason>
-        ensures { result ≡ node_test self.now node }
-    {
-        if !self.is_in_order(node.index) || self.is_known(node.index) {
-            return Err(Reason::BadOrder);
-        }
-        if self.count() >= self.most {
-            return Err(Reason::TooMany);
-        }
-        if self.level > 0 && node.count >= self.at_least {
-            return Err(Reason::HeavySibling);
-        }
-        Ok(())
-    }
-
-    // Adds a node, for which there is room.
-    fn push(&mut self, node: Node)
-        requires small { node.count < 2 ^ 61 }
-        requires room { length self.old.nodes + (length self.old.known - self.old.passed)
-            < self.old.most }
-        ensures { self.new ≡ with_node self.old node }
-    {
-        self.nodes.push(node).unwrap();
-        self.last = Some(node.index);
-    }
-
-    // Whether an index is in the level and above the last one.
-    fn is_in_order(&self, index: u64) -> bool
-        ensures { result ≡ (is_above self.now.last index
-            && nat_lt index (2 ^ (length self.now.challenges - self.now.level))) }
-    {
-        let depth = self.root.seat.depth();
-        is_above(self.last, index) && is_within(index, depth - self.level)
-    }
-
-    // Passes the known nodes below an index.
-    fn pass_below(&mut self, index: u64)
-        ensures { self.new ≡ passing self.old index }
-    {
-        let count = move_below(&self.known[self.passed..], &mut self.nodes, index);
-        self.passed += count;
-    }
-
-    // Passes the known nodes that are left.
-    fn pass_all(&mut self)
-        ensures { self.new ≡ passing_all self.old }
-    {
-        self.nodes
-            .extend_from_slice(&self.known[self.passed..])
-            .unwrap();
-        self.passed = self.known.len();
-    }
-
-    // The tests of the level's nodes, all known nodes being among them.
-    fn test_level(&self) -> Result<(), Reason>
-        requires { self.now.level < length self.now.challenges }
-        ensures { result ≡ end_test (asked_of self.now) self.now.level self.now.nodes }
-    {
-        if !self.is_whole() {
-            return Err(Reason::Pairs);
-        }
-        if !are_heavy(&self.nodes, self.at_least) {
-            return Err(Reason::LightParent);
-        }
-        if !are_within(&self.nodes, self.total) {
-            return Err(Reason::Total);
-        }
-        Ok(())
-    }
-
-    // Whether the level is made of pairs, and has one if it is the last.
-    fn is_whole(&self) -> bool
-        requires { self.now.level < length self.now.challenges }
-        ensures { result ≡ (are_pairs self.now.nodes
-            && (nat_lt (self.now.level + 1) (length self.now.challenges)
-            || not (is_empty self.now.nodes))) }
-    {
-        let left = self.root.seat.depth() - self.level;
-        are_pairs(&self.nodes) && (left > 1 || !self.nodes.is_empty())
-    }
-
-    // Keeps the heavy leaves, at the end of the lowest level.
-    fn keep_heavy(&mut self)
-        ensures { self.new ≡ keeping self.old }
-    {
-        if self.level == 0 {
-            self.found.clear();
-            put_heavy(&self.nodes, self.at_least, &mut self.found);
-        }
-    }
-
-    // Goes to the known nodes of the level above.
-    fn fold_level(&mut self)
-        requires left { self.old.level < length self.old.challenges }
-        requires within { list_all (λ c. nat_le c self.old.total) (pair_counts self.old.nodes)
-            ≡ true }
-        ensures { self.new ≡ folded F.MODULUS self.old }
-    {
-        let depth = self.root.seat.depth();
-        prove!(self.level < depth);
-        self.level += 1;
-        let r = self.root.seat.at(self.level);
-        self.known.clear();
-        fold_pairs(&self.nodes, r, &mut self.known);
-        self.nodes.clear();
-        self.passed = 0;
-        self.last = None;
-    }
-
-    // Whether the next known node has this index.
-    fn is_known(&self, index: u64) -> bool
-        ensures { result ≡ begins_with index (drop self.now.passed self.now.known) }
-    {
-        match self.known.get(self.passed) {
-            Some(node) => node.index == index,
-            None => false,
-        }
-    }
-
-    // The number of known and received nodes.
-    fn count(&self) -> usize
-        ensures { result ≡ length self.now.nodes + (length self.now.known - self.now.passed) }
-    {
-        self.nodes.len() + (self.known.len() - self.passed)
-    }
-}
-
-// Whether an index is in a level of 2^levels nodes.
-fn is_within(index: u64, levels: usize) -> bool
-    ensures { result ≡ nat_lt index (2 ^ levels) }
-{
-    levels >= 64 || index >> levels == 0
 }
 
 // The same root, once more.

@@ -17,7 +17,8 @@ ghost use Rattle.sip_wire.specs.Versions.{deepest};
 ghost use Rattle.sip_wire.specs.declared.version.Version.{Version};
 ghost use Rattle.sip_wire.specs.declared.version.Version.TheVariants.{One, Two};
 ghost use Rattle.sip_replies.specs.Replies.{IsAccepted, IsUnfinished};
-ghost use Rattle.sip_heavy.specs.AcceptsHeavy.{verdict};
+ghost use Rattle.sip_heavy.specs.declared.form.LeafForm.TheVariants as forms;
+ghost use Rattle.sip_heavy.specs.AcceptsHeavy.{asking, verdict};
 ghost use Rattle.sip_heavy.specs.Honest.{Proving, begun, learnt, proving, its_nodes, honest_lists};
 ghost use Rattle.sip_heavy.specs.Honest.{honest_messages, honest_reply, honest_replies, heavy_of};
 ghost use Rattle.sip_heavy.specs.Honest.{CanBeCounted, CanBeSent};
@@ -58,7 +59,7 @@ pub fn honest_messages_have_spellings()
 pub fn honest_lists_are_accepted()
     ensures { (p depth t n : ℕ) (numbers : List ℤ) (challenges : List ℕ)
         → CanBeCounted p depth n numbers → 1 ≤ t → t ≤ n → length challenges ≡ depth
-        → verdict p (record { depth = depth; at_least = t; total = n })
+        → verdict p (asking forms.Count depth t n)
         (augroot p numbers challenges).hash challenges
         (honest_lists p (begun p numbers t) challenges)
         ≡ Ok (heavy_of t numbers) }
@@ -84,7 +85,7 @@ pub fn honest_replies_have_no_fault()
         (revealed more : List ℕ) → CanBeSent version p depth n numbers → 1 ≤ t → t ≤ n
         → length (revealed ++ more) ≤ depth
         → IsUnfinished
-        (heavy_rules version p (record { depth = depth; at_least = t; total = n }))
+        (heavy_rules version p (asking forms.Count depth t n))
         (revealed ++ more) (honest_replies version p numbers t revealed) }
     ensures front { (version : Version) (p depth t n : ℕ) (numbers : List ℤ)
         → CanBeSent version p depth n numbers → 1 ≤ t → t ≤ n
@@ -92,7 +93,7 @@ pub fn honest_replies_have_no_fault()
         → length (revealed ++ r ∷ more) ≤ depth
         → honest_reply version p numbers t revealed ≡ front ++ rest
         → IsUnfinished
-        (heavy_rules version p (record { depth = depth; at_least = t; total = n }))
+        (heavy_rules version p (asking forms.Count depth t n))
         (revealed ++ r ∷ more)
         (honest_replies version p numbers t revealed ++ front ∷ []) }
 {}

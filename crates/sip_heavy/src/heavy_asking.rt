@@ -7,7 +7,8 @@ ghost use Rattle.sip_wire.specs.declared.version.Version.{Version};
 ghost use Rattle.sip_replies.specs.Protocols.{Begins};
 ghost use Rattle.sip_heavy.specs.Asking.{HeavyStands, phase_of};
 ghost use Rattle.sip_heavy.specs.Checking.{Advances, Takes};
-ghost use Rattle.sip_heavy.specs.Protocol.{count_of, heavy_asked, leaf_nodes, nothing_came};
+ghost use Rattle.sip_heavy.specs.Protocol.{count_of, heavy_asked, leaf_nodes, mark_nodes};
+ghost use Rattle.sip_heavy.specs.Protocol.{nothing_came};
 
 use crate::check::HeavyCheck;
 use crate::space::HeavySpace;
@@ -15,7 +16,7 @@ use sip_field::{Field, M61};
 use sip_replies::{Check, More, Said};
 use sip_tree::AugRoot;
 use sip_vector::{CAP, Entry};
-use sip_wire::{Leaf, Message, Node, Place, Reason};
+use sip_wire::{Leaf, Mark, Message, Node, Place, Reason};
 use std::marker::Model;
 
 /// The check of the replies to one query for heavy hitters, in the form that the general talk asks.
@@ -102,7 +103,7 @@ impl Check for HeavyAsking {
 
     fn place(&self) -> Place {
         if self.check.is_lowest() {
-            Place::Leaves
+            self.check.leaf_place()
         } else {
             Place::Nodes
         }
@@ -111,10 +112,17 @@ impl Check for HeavyAsking {
     fn take(&mut self, message: &Message, places: &mut [Entry]) -> Result<More, Reason> {
         match message {
             Message::Leaves(rows) => {
-                if !self.check.is_lowest() {
+                if !self.check.awaits_counts() {
                     return Err(Reason::BadKind);
                 }
                 give_leaves(&mut self.check, rows)?;
+                Ok(More::Due)
+            }
+            Message::Marks(rows) => {
+                if !self.check.awaits_marks() {
+                    return Err(Reason::BadKind);
+                }
+                give_marks(&mut self.check, rows)?;
                 Ok(More::Due)
             }
             Message::Nodes(rows) => {
@@ -173,6 +181,22 @@ fn give_leaves(check: &mut HeavyCheck<M61, CAP>, rows: &[Leaf]) -> Result<(), Re
 {
     for row in rows {
         check.leaf(row.item, row.count)?;
+    }
+    Ok(())
+}
+
+// Gives the marks of one frame to a check.
+fn give_marks(check: &mut HeavyCheck<M61, CAP>, rows: &[Mark]) -> Result<(), Reason>
+    requires unspent { check.old.spent ≡ false }
+    requires lowest { check.old.level ≡ 0 }
+    requires small { All (λ m. m.weight < m61_modulus) rows.now }
+    ensures answers { Takes m61_modulus check.old (mark_nodes m61_modulus rows.now)
+        check.new result }
+    ensures advances { Advances check.old check.new 0 0 }
+    ensures spent { check.new.spent ≡ is_err result }
+{
+    for row in rows {
+        check.mark(row.item, row.value, row.weight)?;
     }
     Ok(())
 }

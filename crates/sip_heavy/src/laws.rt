@@ -3,7 +3,7 @@
 #![tactic(auto, unfolding(crate::specs::AcceptsHeavy::verdict, crate::specs::AcceptsHeavy::known_after))]
 
 ghost use Rattle.std.specs.Prelude.{◌≡◌, ℕ, ◌+◌, ◌<◌, ◌≤◌, ◌==◌, true, List, [], ◌∷◌, ◌++◌, length};
-ghost use Rattle.std.specs.Prelude.{All, Ok, pos};
+ghost use Rattle.std.specs.Prelude.{All, Ok, pos, negsuc};
 ghost use Rattle.std.specs.List.{flat_map};
 ghost use Rattle.sip_field.specs.Moduli.{m61_modulus};
 ghost use Rattle.sip_vector.specs.Examples.{four};
@@ -22,7 +22,8 @@ ghost use Rattle.sip_heavy.specs.Stating.{AreFrames, IsFrame, States, as_answer,
 ghost use Rattle.sip_heavy.specs.Stating.{stated_nodes, stated_replies, then_ended, then_read};
 ghost use Rattle.sip_heavy.specs.AcceptsHeavy.{HeavyQuestion, end_test, known_after, merged};
 ghost use Rattle.sip_heavy.specs.AcceptsHeavy.{nodes_above, with_nodes};
-ghost use Rattle.sip_heavy.specs.Examples.{fault, leaf, node, pair, verdict_of};
+ghost use Rattle.sip_heavy.specs.Examples.{fault, leaf, mark, marks_verdict_of, node, pair};
+ghost use Rattle.sip_heavy.specs.Examples.{verdict_of};
 ghost use Rattle.sip_wire.specs.declared.message.Reason.TheVariants as reasons;
 
 /// The entries of at least 4 of (3, 0, 5, 1), worked out by hand: the leaves 2 and 3 become the
@@ -34,6 +35,23 @@ pub fn five_is_heavy()
     ensures root { augroot m61_modulus four (2 ∷ 10 ∷ []) ≡ record { hash = 8739; count = pos 9 } }
     ensures said { verdict_of 4 (pair ∷ (node 0 9 3 ∷ []) ∷ [])
         ≡ Ok (record { index = 2; value = pos 5 } ∷ []) }
+{}
+
+/// The entries of at least 3, and of at least 6, of (0, 5, -9, 3) with the weights (0, 5, 9, 5),
+/// worked out by hand. At 3 all leaves are shown and no node. At 6 the leaves 2 and 3 become the
+/// node 1, and with the received node 0 the top; none of them has such an entry, however heavy it
+/// is. A node 0 that counts too much is a heavy sibling, and a mark of another value has another
+/// root.
+pub fn marks_by_hand()
+    ensures low { marks_verdict_of 3 ((mark 0 (pos 0) 0 ∷ mark 1 (pos 5) 5 ∷ mark 2 (negsuc 8) 9
+        ∷ mark 3 (pos 3) 5 ∷ []) ∷ [] ∷ [])
+        ≡ Ok (record { index = 1; value = pos 5 } ∷ record { index = 3; value = pos 3 } ∷ []) }
+    ensures high { marks_verdict_of 6 ((mark 2 (negsuc 8) 9 ∷ mark 3 (pos 3) 5 ∷ [])
+        ∷ (node 0 60 5 ∷ []) ∷ []) ≡ Ok [] }
+    ensures sibling { marks_verdict_of 6 ((mark 2 (negsuc 8) 9 ∷ mark 3 (pos 3) 5 ∷ [])
+        ∷ (node 0 60 6 ∷ []) ∷ []) ≡ fault 1 reasons.HeavySibling }
+    ensures other { marks_verdict_of 6 ((mark 2 (pos 9) 9 ∷ mark 3 (pos 3) 5 ∷ [])
+        ∷ (node 0 60 5 ∷ []) ∷ []) ≡ fault 2 reasons.Root }
 {}
 
 /// Faults of reply 0: a leaf without its sibling, a pair below the threshold, a pair above the
@@ -79,17 +97,19 @@ pub fn one_node_is_known_in_the_end()
 /// the heavy leaves, or to the first fault.
 pub fn bytes_come_to_what_nodes_do()
     ensures judged { (asked : HeavyAsked) (challenges : List ℕ) (replies : List (List AnyMessage))
-        → asked.query.depth ≡ length challenges → AreFrames asked.version 0 replies
+        → asked.query.depth ≡ length challenges
+        → AreFrames asked.version asked.query.form 0 replies
         → length replies ≡ length challenges
         → verdict (heavy_protocol asked) challenges (stated_replies asked.version replies)
         ≡ as_answer (heavy.verdict asked.modulus asked.query asked.root challenges
-        (stated_nodes replies)) }
+        (stated_nodes asked.modulus replies)) }
     ensures accepted { (asked : HeavyAsked) (challenges : List ℕ)
         (replies : List (List AnyMessage)) → asked.query.depth ≡ length challenges
-        → reaches asked.query ≡ true → AreFrames asked.version 0 replies
+        → reaches asked.query ≡ true → AreFrames asked.version asked.query.form 0 replies
         → length replies ≡ length challenges
         → accepts (heavy_protocol asked) challenges (stated_replies asked.version replies)
-        ≡ heavy.accepts asked.modulus asked.query asked.root challenges (stated_nodes replies) }
+        ≡ heavy.accepts asked.modulus asked.query asked.root challenges
+        (stated_nodes asked.modulus replies) }
 {}
 
 /// Accepted replies are the bytes of frames of nodes, by level, with the end of a level behind
@@ -106,11 +126,11 @@ pub fn accepted_replies_state_nodes()
 /// once, and the tests of a level come with its end.
 pub fn frames_are_read_one_after_another()
     ensures nodes { (asked : HeavyAsked) (s : HeavyState) (frames : List AnyMessage)
-        (rest : List ℕ) → All (IsFrame asked.version (s.level == 0)) frames
+        (rest : List ℕ) → All (IsFrame asked.version asked.query.form (s.level == 0)) frames
         → read_reply (heavy_rules asked.version asked.modulus asked.query) s
         (flat_map (spelling asked.version) frames ++ rest)
         ≡ then_read asked s rest (with_nodes asked.query s.level s.known s.received
-        (flat_map nodes_of frames)) }
+        (flat_map (nodes_of asked.modulus) frames)) }
     ensures end { (asked : HeavyAsked) (s : HeavyState) (rest : List ℕ)
         → read_reply (heavy_rules asked.version asked.modulus asked.query) s
         (spelling asked.version messages.LevelEnd ++ rest)

@@ -1,10 +1,11 @@
 //! The nodes of a level: what the check does with lists of them.
 ghost use Rattle.std.specs.Prelude.{◌≡◌, ℕ, ◌+◌, ◌*◌, ◌/◌, ◌%◌, ◌^◌, ◌<◌, ◌≤◌, ◌++◌, All, length};
-ghost use Rattle.std.specs.Prelude.{nat_le, pos, vec_len, vec_capacity};
+ghost use Rattle.std.specs.Prelude.{nat_le, pos, int_le, vec_len, vec_capacity};
 ghost use Rattle.std.specs.List.{list_all};
 ghost use Rattle.sip_field.specs.Residue.{product_mod};
 ghost use Rattle.sip_heavy.specs.AcceptsHeavy as heavy;
 
+use crate::form::LeafForm;
 use sip_field::Field;
 use sip_vector::Entry;
 use sip_wire::Node;
@@ -116,28 +117,58 @@ pub(crate) fn fold_pairs<F: Field>(nodes: &[Node], r: F, above: &mut Vec<Node>)
     }
 }
 
-// Puts the entries of the nodes with a count of at least this behind others, in a list that has
-// room for them.
-pub(crate) fn put_heavy(nodes: &[Node], at_least: u64, found: &mut Vec<Entry>)
+// Puts the leaves whose entry is at least this behind others, in a list that has room for them.
+pub(crate) fn put_heavy<F: Field>(
+    nodes: &[Node],
+    form: LeafForm,
+    at_least: u64,
+    found: &mut Vec<Entry>,
+)
     requires room { vec_len found.old + length nodes.now ≤ vec_capacity found.old }
     requires small { All (λ x. x.count < 2 ^ 61) nodes.now }
-    ensures found { found.new.items ≡ found.old.items ++ heavy.heavy_entries at_least nodes.now }
+    ensures found { found.new.items
+        ≡ found.old.items ++ heavy.heavy_entries F.MODULUS form at_least nodes.now }
     ensures capacity { vec_capacity found.old ≤ vec_capacity found.new }
 {
     for node in nodes {
-        if node.count >= at_least {
-            found.push(entry_of(node)).unwrap();
+        let value = value_of::<F>(form, node);
+        if is_at_least(value, at_least) {
+            found
+                .push(Entry {
+                    index: node.index,
+                    value,
+                })
+                .unwrap();
         }
     }
 }
 
-// A leaf as an entry.
-fn entry_of(leaf: &Node) -> Entry
-    requires { leaf.now.count < 2 ^ 61 }
-    ensures { result ≡ record { index = leaf.now.index; value = pos leaf.now.count } }
+// Whether an entry is at least this.
+fn is_at_least(value: i64, at_least: u64) -> bool
+    ensures { result ≡ int_le (pos at_least) value }
 {
-    Entry {
-        index: leaf.index,
-        value: leaf.count as i64,
+    value >= 0 && value as u64 >= at_least
+}
+
+// The entry that a leaf stands for.
+fn value_of<F: Field>(form: LeafForm, leaf: &Node) -> i64
+    requires { leaf.now.count < 2 ^ 61 }
+    ensures { result ≡ heavy.value_of F.MODULUS form leaf.now }
+{
+    match form {
+        LeafForm::Count => leaf.count as i64,
+        LeafForm::Mark => signed_of(F::of(leaf.hash)),
+    }
+}
+
+// The number of least size that has this residue.
+fn signed_of<F: Field>(residue: F) -> i64
+    ensures { (h : ℕ) → F.number residue ≡ h % F.MODULUS → result ≡ heavy.signed F.MODULUS h }
+{
+    let number = residue.number();
+    if number <= F::HALF {
+        number as i64
+    } else {
+        number as i64 - F::MODULUS as i64
     }
 }

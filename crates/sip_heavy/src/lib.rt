@@ -62,6 +62,7 @@
 
 mod check;
 pub mod counting;
+mod form;
 mod heavy_asking;
 pub mod laws;
 mod level;
@@ -69,6 +70,7 @@ pub mod shares;
 mod space;
 
 pub use check::HeavyCheck;
+pub use form::LeafForm;
 pub use heavy_asking::HeavyAsking;
 pub use space::HeavySpace;
 

@@ -54,7 +54,7 @@
 //! | `SubAsking::take` | those of its frame's entries or siblings; its other calls have none |
 //! | `SubProver::start` | 0; in time O(1), and a walk over the vector where it has not settled |
 //! | `SubProver::learn` | 0; in time O(1) |
-//! | `SubProver::siblings` | one for each entry below a sibling, and 127, for eight challenges |
+//! | `SubProver::siblings` | one for each entry below a sibling, and 255, for eight challenges |
 //!
 //! No two siblings of one proof lie above the same entry, so over all levels each entry is used
 //! once.

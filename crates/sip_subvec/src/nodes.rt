@@ -43,7 +43,7 @@ fn walked(alloc: Global, vector: &Vector) -> Result<Vec<Entry>, OutOfMemory>
     Ok(list)
 }
 
-// Makes the tables of all these challenges, and says how many they are. 255 `times` for seven
+// Makes the tables of all these challenges, and says how many they are. 255 `times` for eight
 // challenges.
 pub(crate) fn tables_of<F: Field>(tables: &mut [[u64; 256]; 6], challenges: &[F]) -> usize
     requires { length challenges.now ≤ most_depth }

@@ -149,7 +149,7 @@ no_sum asked k z (Err fault) e = absurd cc
 no_sum asked k z (Ok s) e = by_test (top_test asked.query asked.root s.known) e
   where
     by_test : {X : Type 0} (tested : Result X Reason)
-        → in_round k (tested >>= λ _. Ok (pairs (heavy_entries asked.query.at_least s.leaves))) ≡ Ok (number z) → ⊥
+        → in_round k (tested >>= λ _. Ok (pairs (heavy_entries asked.modulus asked.query.form asked.query.at_least s.leaves))) ≡ Ok (number z) → ⊥
     by_test (Ok x) is = absurd cc
     by_test (Err reason) is = absurd cc
 

@@ -21,6 +21,7 @@ use Rattle.sip_wire.specs.Table.{allows, leaf_fields, most_rows, node_fields, si
 use Rattle.sip_replies.specs.declared.check.More.TheVariants as mores
 use Rattle.sip_replies.specs.Replies.{joined, reason_of}
 use Rattle.sip_replies.proofs.Passing.{step_passed, test_passed}
+use Rattle.sip_heavy.specs.declared.form.LeafForm.TheVariants as forms
 use Rattle.sip_heavy.specs.AcceptsHeavy.{HeavyQuestion, end_test, is_next, leaf_node, merged, most_nodes, with_nodes}
 use Rattle.sip_heavy.specs.LawProofs.ReplyTests.{heavy_tests}
 use Rattle.sip_heavy.specs.Protocol.{HeavyState, ended, heavy_rules, heavy_step, leaf_nodes, nodes_step}
@@ -122,7 +123,11 @@ heard_at : (first : Bool) (kind : Kind) → allows (place_at first) kind ≡ tru
 heard_at true kind a = heard_leaves kind a
 heard_at false kind a = heard_nodes kind a
 
-module _ (version : Version) (p : ℕ) (q : HeavyQuestion) where
+module _ (version : Version) (p depth at_least total : ℕ) where
+  -- leaves are counts
+  abbrev q : HeavyQuestion
+  q = record { form = forms.Count; depth = depth; at_least = at_least; total = total }
+
   -- nodes go on
   went : (s t : HeavyState) (xs : List Node) (bytes rest : List ℕ) → HasFew q s → nodes_step q s xs ≡ Ok (mores.Due, t)
       → ((all : List Node) → length all ≡ length s.received + length xs → length all ≤ most_nodes q
@@ -142,7 +147,7 @@ module _ (version : Version) (p : ℕ) (q : HeavyQuestion) where
       absurd (let both = (same_due mores.Due mores.Complete _ t a.then).0 in cc)
 
   due : (first : Bool) (s t : HeavyState) (m : Message) (bytes rest : List ℕ) → (s.level == 0) ≡ first → HasFew q s
-      → read_frame version (place_at first) bytes ≡ Ok (m, rest) → heavy_step q s m ≡ Ok (mores.Due, t)
+      → read_frame version (place_at first) bytes ≡ Ok (m, rest) → heavy_step p q s m ≡ Ok (mores.Due, t)
       → HasFew q t × (length bytes + nodes_left version q t ≤ nodes_left version q s + length rest)
   due true s t (messages.Leaves v) bytes rest f h read e =
       let x = test_passed (s.level == 0) reasons.BadKind (λ _. nodes_step q s (leaf_nodes v.items)) (mores.Due, t) e in
@@ -186,7 +191,7 @@ module _ (version : Version) (p : ℕ) (q : HeavyQuestion) where
 
   -- a level's end completes it, and of the next level nothing was received
   complete : (first : Bool) (s t : HeavyState) (m : Message) (bytes rest : List ℕ)
-      → read_frame version (place_at first) bytes ≡ Ok (m, rest) → heavy_step q s m ≡ Ok (mores.Complete, t)
+      → read_frame version (place_at first) bytes ≡ Ok (m, rest) → heavy_step p q s m ≡ Ok (mores.Complete, t)
       → (length bytes ≤ 3 + length rest) × (length t.received ≡ 0)
   complete first s t (messages.Leaves v) bytes rest read e =
       let x = test_passed (s.level == 0) reasons.BadKind (λ _. nodes_step q s (leaf_nodes v.items)) (mores.Complete, t) e in absurd (omega (arith, no_end s t (leaf_nodes v.items) x.1))

@@ -1,5 +1,5 @@
 -- No more bytes are received for a question than its replies may have.
-use Rattle.std.proofs.Common.{◌≡◌, inl, inr, ℕ, ◌≤◌, Bool, true, false, Option, Some, None, Result, Ok, Err, List, [], ◌++◌, length, refl, sym, ap, subst, ◌∙◌, arith, append-nil, length-append}
+use Rattle.std.proofs.Common.{◌≡◌, inl, inr, ℕ, ◌≤◌, ℤ, Bool, true, false, Option, Some, None, Result, Ok, Err, List, [], ◌++◌, length, refl, sym, ap, subst, ◌∙◌, arith, append-nil, length-append}
 use Rattle.std.specs.Prelude.{if◌then◌else◌}
 use Rattle.sip_field.specs.Moduli.{m61_modulus}
 use Rattle.sip_ports.specs.declared.port.TalkEvent.{TalkEvent}
@@ -22,9 +22,8 @@ use Rattle.sip_replies.specs.Replies.{Fault, joined}
 use Rattle.sip_replies.specs.Talks.{IsPrefix, asked_unless, ending}
 use Rattle.sip_replies.proofs.Hearing.{heard-asked}
 use Rattle.sip_replies.proofs.Unasked.{accepted_asked}
-use Rattle.sip_heavy.specs.AcceptsHeavy.{HeavyQuestion}
 use Rattle.sip_heavy.specs.Counting.{asked_over}
-use Rattle.sip_heavy.specs.Protocol.{heavy_rules, reaches}
+use Rattle.sip_heavy.specs.Protocol.{count_of, heavy_rules, reaches}
 use Rattle.sip_verifier.specs.declared.session.SessionFault.{SessionFault}
 use Rattle.sip_verifier.specs.declared.session.SessionFault.TheVariants as faults
 use Rattle.sip_verifier.specs.declared.session.Verdict.{Verdict}
@@ -106,9 +105,9 @@ reaches_asked : (known : Answer) (test : Bool) → (if test then None else Some 
 reaches_asked known true e = refl
 reaches_asked known false e = absurd cc
 
-nodes_bound : (version : Version) (depth : ℕ) (q : HeavyQuestion) (block : List ℕ) (replies : List (List ℕ)) → length block ≡ depth → reaches q ≡ true → AreTaken (heavy_rules version m61_modulus q) block replies
-    → length (joined replies) ≤ most_node_bytes version depth q
-nodes_bound version depth q block replies size is taken = rw (is, ← size) (nodes_short version m61_modulus q block replies taken)
+nodes_bound : (version : Version) (depth at_least : ℕ) (numbers : List ℤ) (block : List ℕ) (replies : List (List ℕ)) → length block ≡ depth → reaches (asked_over depth at_least numbers) ≡ true
+    → AreTaken (heavy_rules version m61_modulus (asked_over depth at_least numbers)) block replies → length (joined replies) ≤ most_node_bytes version depth (asked_over depth at_least numbers)
+nodes_bound version depth at_least numbers block replies size is taken = rw (is, ← size) (nodes_short version m61_modulus depth at_least (count_of (int_sum numbers)) block replies taken)
 
 module _ (version : Version) (depth : ℕ) (stream : List Update) (block : List ℕ) (size : length block ≡ depth) where
   row_short : (query : Query) → ShortRow query block None None (most_bytes version depth stream query) (kind_row version depth stream query)
@@ -117,12 +116,12 @@ module _ (version : Version) (depth : ℕ) (stream : List Update) (block : List 
   row_short (F2 side) = λ replies due taken. rw (← size) (sums_short version m61_modulus block replies taken)
   row_short Inner = λ replies due taken. rw (← size) (sums_short version m61_modulus block replies taken)
   row_short (Heavy side at_least) = λ replies due taken.
-      nodes_bound version depth (asked_over depth at_least (vector depth stream side)) block replies size
+      nodes_bound version depth at_least (vector depth stream side) block replies size
       (reaches_asked (pairs []) (reaches (asked_over depth at_least (vector depth stream side))) due) taken
   row_short (Above side at_least) = tt
   row_short (Share side num den) = λ replies due taken.
       let t = share_of num den (int_sum (vector depth stream side)) in
-      nodes_bound version depth (asked_over depth t (vector depth stream side)) block replies size
+      nodes_bound version depth t (vector depth stream side) block replies size
       (reaches_asked (pairs []) (reaches (asked_over depth t (vector depth stream side))) due) taken
 
   module _ (query : Query) (old new : Option (List TalkEvent)) where

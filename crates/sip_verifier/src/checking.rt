@@ -29,7 +29,7 @@ ghost use Rattle.sip_verifier.specs.Weights.{AreWeights};
 use crate::concluding::conclude_run;
 use crate::ending::{status_of, status_of_start};
 use crate::gathering::gather;
-use crate::{Seats, Session, Status, Task, Weights};
+use crate::{Seats, Session, Status, Tables, Task, Weights};
 use sip_ports::{Link, Sink, Source};
 use sip_vector::{Depth, Negatives};
 use sip_wire::{MOST_QUERIES, Version};
@@ -150,8 +150,10 @@ fn gather_session<A: Source, B: Source, L: Link, C: Sink>(
     prove!(levels <= Depth::MOST);
     // Nothing is gathered yet. What is stays here until the session has it.
     let mut gathered = Err(Status::SeedSpent);
-    let weights = gather(task, first, second, peer, keep, &mut gathered);
+    let mut tables = Tables::new(alloc);
+    let weights = gather(task, first, second, peer, keep, &mut tables, &mut gathered);
     *negatives = negatives_of(&gathered, &weights);
+    tables.check(&gathered)?;
     open_session(alloc, task.version(), &mut gathered)
 }
 
@@ -159,8 +161,9 @@ fn gather_session<A: Source, B: Source, L: Link, C: Sink>(
 /// `peer`, asks each query, judges the replies and writes a line for each to `report`.
 ///
 /// After a rejection its line is written and nothing more is sent. The memory is that of
-/// [`crate::Session::new`], which doesn't grow with the stream; the time is linear in the stream
-/// and the replies, with at most `depth` multiplications for each record and query.
+/// [`crate::Session::new`] and of [`Seats::keep_tables`], which don't grow with the stream; the time
+/// is linear in the stream and the replies, with one multiplication for each eight levels, record
+/// and query.
 ///
 /// `keep` gets the run's transcript: its head before anything is said, and each frame's bytes as
 /// soon as they came, before they are judged; of a frame that the link's failure cut, it gets none.

@@ -27,7 +27,7 @@ ghost use Rattle.sip_verifier.specs.Tasks.{CanBeDone};
 ghost use Rattle.sip_verifier.specs.Weights.{AreWeights, none};
 
 use crate::ending::{on_keep, on_link};
-use crate::{Feed, Port, Seats, Status, Task, Weights};
+use crate::{Feed, Port, Seats, Status, Tables, Task, Weights};
 use sip_ports::{Link, PortStop, Sink, Source, read_exact_into};
 use sip_stream::{Reader, StreamFault};
 use sip_vector::{Depth, Side, Update};
@@ -182,9 +182,10 @@ fn stopped(gathered: &mut Result<Seats, Status>, status: Status) -> Weights
 /// where they were drawn, since they are too large to be moved about.
 ///
 /// There is no allocator here: what is kept of a stream has a fixed size, whatever its length. The
-/// seats take the records in blocks of 512: the time for each record is one look-up and one
-/// multiplication for each seven levels and query, and that of their tables once a block. A frame
-/// is sent for each 512 records, in one write.
+/// one memory is that of `tables`, which the seats have as soon as they are drawn, and go on
+/// without where it is refused. They take the records in blocks of 512: the time for each record is
+/// one look-up and one multiplication for each eight levels and query. A frame is sent for each 512
+/// records, in one write.
 ///
 /// # Errors
 ///
@@ -199,6 +200,7 @@ pub fn gather<A: Source, B: Source, L: Link, C: Sink>(
     second: &mut B,
     peer: &mut L,
     keep: &mut C,
+    tables: &mut Tables,
     gathered: &mut Result<Seats, Status>,
 ) -> Weights
     requires { CanBeDone task.now }
@@ -223,6 +225,7 @@ pub fn gather<A: Source, B: Source, L: Link, C: Sink>(
         Ok(seats) => seats,
         Err(_) => return Weights::default(),
     };
+    tables.keep(seats);
     match on_keep(seats.put_transcript_head(keep)) {
         Ok(()) => {}
         Err(status) => return stopped(gathered, status),

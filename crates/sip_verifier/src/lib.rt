@@ -75,6 +75,7 @@ mod seats;
 mod session;
 mod status;
 mod sub_vector;
+mod tables;
 mod task;
 mod weights;
 
@@ -94,5 +95,6 @@ pub use seats::Seats;
 pub use session::{Session, SessionFault, SessionStart, Verdict};
 pub use status::{Port, Status};
 pub use sub_vector::ask_sub;
+pub use tables::Tables;
 pub use task::Task;
 pub use weights::Weights;

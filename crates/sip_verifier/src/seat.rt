@@ -15,9 +15,10 @@ ghost use Rattle.sip_verifier.specs.Tasks.{CanBeAsked};
 ghost use Rattle.sip_verifier.specs.Widths.{is_wide_seat};
 
 use crate::running::Running;
-use sip_field::{M61, Seat};
+use sip_field::{M61, OutOfMemory, Seat};
 use sip_subvec::MOST_ENTRIES;
 use sip_vector::{CAP, Query, Side, Update, is_wide, share_of};
+use std::alloc::Global;
 use std::marker::Model;
 
 // Whether updates of this side change the running numbers of a query.
@@ -193,6 +194,13 @@ impl QuerySeat {
         ensures { result ≡ concerns self.now.query side }
     {
         concerns(&self.query, side)
+    }
+
+    /// Keeps tables of the challenges, by which updates are added from now on.
+    pub(crate) fn keep_tables(&mut self, alloc: Global) -> Result<(), OutOfMemory>
+        ensures { self.new ≡ self.old }
+    {
+        self.running.keep_tables(alloc)
     }
 
     /// Adds updates of one side to the running numbers, in order.

@@ -23,10 +23,11 @@ ghost use Rattle.sip_verifier.specs.Weights.{AreWeights};
 use crate::Weights;
 use crate::seat::QuerySeat;
 use arrayvec::ArrayVec;
-use sip_field::{M61, Seat, SeedSpent, draw_challenges};
+use sip_field::{M61, OutOfMemory, Seat, SeedSpent, draw_challenges};
 use sip_ports::{PortStop, Sink};
 use sip_vector::{CAP, Depth, Negatives, Query, Side, Update, take_side};
 use sip_wire::{MOST_QUERIES, MOST_ROWS, Version, put_ask, put_head};
+use std::alloc::Global;
 use std::marker::Model;
 
 /// How many challenges a run has at most: 16 queries at depth 48.
@@ -34,7 +35,7 @@ const MOST_CHALLENGES: usize = MOST_QUERIES * CAP;
 
 /// The seats of a run: one for each query, in the order of the queries. Each has its own challenges
 /// and one running number or two, which stand for the stream so far. Beside these nothing of a
-/// stream is kept, and no call takes memory.
+/// stream is kept, and no call takes memory but [`keep_tables`](Seats::keep_tables).
 #[derive(Drop)]
 pub struct Seats {
     depth: Depth,
@@ -112,6 +113,18 @@ impl Seats {
         &self.seats
     }
 
+    /// Keeps tables of the challenges of each query, by which blocks of updates are added from now
+    /// on: 2 KiB for eight levels, and 4 where large entries are asked for, so 384 KiB for 16 such
+    /// queries at depth 48. The seats stay as they are, also where there is no memory.
+    pub fn keep_tables(&mut self, alloc: Global) -> Result<(), OutOfMemory>
+        ensures { self.new ≡ self.old }
+    {
+        for seat in self.seats.iter_mut() {
+            seat.keep_tables(alloc)?;
+        }
+        Ok(())
+    }
+
     /// Adds an update to each running number that it concerns.
     ///
     /// The sum that a seat for heavy hitters of the update's side keeps must stay within 2^30 - 1.
@@ -131,8 +144,8 @@ impl Seats {
     /// Adds a block of updates to each running number, those that concern it.
     ///
     /// The block is split by side once. Then an update takes, for each query that it concerns, one
-    /// look-up and one multiplication for each seven levels; their tables are made once for a
-    /// block, a side and a query, on the stack. No memory.
+    /// look-up and one multiplication for each eight levels, by the tables that are kept. Where
+    /// none are, they are made once for a block, a side and a query, on the stack. No memory.
     #[inline(never)]
     pub fn update_all(&mut self, updates: &[Update])
         requires most { length updates.now ≤ most_rows }

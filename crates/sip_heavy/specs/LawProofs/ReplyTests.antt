@@ -13,7 +13,8 @@ use Rattle.sip_replies.specs.declared.check.More.{More}
 use Rattle.sip_replies.specs.LawProofs.Refusals.{same_err, wrong_kind}
 use Rattle.sip_heavy.specs.AcceptsHeavy.{HeavyQuestion, most_nodes, is_next, with_nodes, are_pairs}
 use Rattle.sip_heavy.specs.AcceptsHeavy.{is_empty, pair_counts, end_test, merged, top_test}
-use Rattle.sip_heavy.specs.Protocol.{HeavyAsked, HeavyState, leaf_nodes, nodes_step, heavy_protocol}
+use Rattle.sip_heavy.specs.Protocol.{HeavyAsked, HeavyState, are_counts, leaf_nodes}
+use Rattle.sip_heavy.specs.Protocol.{mark_nodes, nodes_step, heavy_protocol}
 
 -- the end of the link is not the reason of this
 abbrev NotClosed : {X : Type 0} → Result X Reason → Type 0
@@ -76,8 +77,11 @@ by_rows asked s xs =
 pub heavy_tests : (asked : HeavyAsked) (s : HeavyState) (m : Message) (reason : Reason)
     → (heavy_protocol asked).rules.step s m ≡ Err reason → reason ≢ reasons.Closed
 heavy_tests asked s (messages.Leaves v) =
-    by_needs (s.level == 0) reasons.BadKind _ (λ c. absurd cc)
+    by_needs (are_counts asked.query.form && (s.level == 0)) reasons.BadKind _ (λ c. absurd cc)
     (by_rows asked s (leaf_nodes v.items))
+heavy_tests asked s (messages.Marks v) =
+    by_needs (not (are_counts asked.query.form) && (s.level == 0)) reasons.BadKind _
+    (λ c. absurd cc) (by_rows asked s (mark_nodes asked.modulus v.items))
 heavy_tests asked s (messages.Nodes v) =
     by_needs (not (s.level == 0)) reasons.BadKind _ (λ c. absurd cc) (by_rows asked s v.items)
 heavy_tests asked s messages.LevelEnd =
@@ -101,7 +105,6 @@ heavy_tests asked s messages.End = wrong_kind {X = More × HeavyState}
 heavy_tests asked s (messages.AskMoment side degree) = wrong_kind {X = More × HeavyState}
 heavy_tests asked s (messages.Held held) = wrong_kind {X = More × HeavyState}
 heavy_tests asked s (messages.Recall count) = wrong_kind {X = More × HeavyState}
-heavy_tests asked s (messages.Marks v) = wrong_kind {X = More × HeavyState}
 heavy_tests asked s (messages.Power v) = wrong_kind {X = More × HeavyState}
 
 -- ---- the tests behind the last reply

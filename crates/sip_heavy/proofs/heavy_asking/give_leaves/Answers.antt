@@ -1,4 +1,4 @@
-use Rattle.std.proofs.Common.{◌+◌, drop, get_or, ap, ◌∙◌, arith}
+use Rattle.std.proofs.Common.{◌+◌, drop, get_or, ap, arith}
 use Rattle.std.proofs.lemmas.List.{drop_more, drop_all}
 use Rattle.sip_field.specs.Moduli.{m61_modulus}
 use Rattle.sip_wire.specs.declared.message.Leaf.{Leaf}

@@ -1,4 +1,4 @@
-use Rattle.std.proofs.Common.{◌+◌, ℕ, [], ◌∷◌, drop, get_or, subst, ◌∙◌, arith}
+use Rattle.std.proofs.Common.{◌+◌, ℕ, [], ◌∷◌, drop, get_or, subst, arith}
 use Rattle.std.proofs.lemmas.List.{drop_more, drop_all}
 use Rattle.sip_field.specs.Moduli.{m61_modulus}
 use Rattle.sip_wire.specs.declared.message.Node.{Node}

@@ -1,5 +1,5 @@
 -- The lowest tables, and the others.
-use Rattle.std.proofs.Common.{◌≡◌, ℕ, List, ◌*◌, ◌<◌, ◌≤◌, length, drop, take, ap, sym, subst, arith}
+use Rattle.std.proofs.Common.{◌≡◌, ℕ, List, ◌*◌, ◌≤◌, length, drop, take, ap, sym, subst, arith}
 use Rattle.std.proofs.lemmas.List.{length-drop}
 use Rattle.sip_field.specs.Products.{zero_factor, AreTables}
 use Rattle.sip_field.specs.declared.factors.Factors.TheVariants.{Tree}

@@ -64,14 +64,14 @@ returns-in-Err-gathered-clause-keeps g c = λ report reports.
 pub returns-in-Err-on_keep-clause-keeps : goal.returns-in-Err-on_keep-clause-keeps
 returns-in-Err-on_keep-clause-keeps g c = λ report reports.
     let task = c.args.task.now in
-    let seats = c.in-Ok-gathered.seats in
+    let seats = c.keep.new.seats in
     let (port, stop, is) = c.in-Err-on_keep.ensures in
     stopped_so c.stopped-in-Err-on_keep.ensures.place c.stopped-in-Err-on_keep.ensures.weights (record {
       gathers = λ bytes seed all told.
-          let has : HasDrawn task seed seats = rw c.in-Ok-gathered.is at c.in-Ok.ensures.draws seed told in
+          let has = subst (HasDrawn task seed) (sym c.keep.ensures) (rw c.in-Ok-gathered.is at c.in-Ok.ensures.draws seed told) in
           rw is (unheaded task bytes seed seats (g.L.Sink.talk c.args.peer.now) port has);
       kept = λ seed told.
-          let has : HasDrawn task seed seats = rw c.in-Ok-gathered.is at c.in-Ok.ensures.draws seed told in
+          let has = subst (HasDrawn task seed) (sym c.keep.ensures) (rw c.in-Ok-gathered.is at c.in-Ok.ensures.draws seed told) in
           head_stopped task seed seats _ _ has c.put_transcript_head.result port _ c.put_transcript_head.ensures.talk stop is;
       seated = tt;
       weights = λ bytes all. tt;
@@ -86,12 +86,12 @@ returns-in-Err-on_keep-clause-keeps g c = λ report reports.
 pub returns-in-Err-follow-clause-keeps : goal.returns-in-Err-follow-clause-keeps
 returns-in-Err-follow-clause-keeps g c = λ report reports.
     let task = c.args.task.now in
-    let seats = c.in-Ok-gathered.seats in
+    let seats = c.keep.new.seats in
     let status = c.in-Err-follow.status in
     let e = c.in-Err-follow.ensures in
     let stops = e.fault _ _ _ _ _ _ in
     let drawn : (seed : List ℕ) → g.B.Source.left c.args.second.now ≡ Some seed → HasDrawn task seed seats =
-    λ seed told. rw c.in-Ok-gathered.is at c.in-Ok.ensures.draws seed told in
+    λ seed told. subst (HasDrawn task seed) (sym c.keep.ensures) (rw c.in-Ok-gathered.is at c.in-Ok.ensures.draws seed told) in
     stopped_so c.stopped-in-Err-follow.ensures.place c.stopped-in-Err-follow.ensures.weights (record {
       gathers = λ bytes seed all told.
           let has = drawn seed told in
@@ -112,10 +112,10 @@ returns-in-Err-follow-clause-keeps g c = λ report reports.
 pub returns-in-Ok-follow-clause-keeps : goal.returns-in-Ok-follow-clause-keeps
 returns-in-Ok-follow-clause-keeps g c = λ report reports.
     let task = c.args.task.now in
-    let seats = c.in-Ok-gathered.seats in
+    let seats = c.keep.new.seats in
     let e = c.in-Ok-follow.ensures in
     let drawn : (seed : List ℕ) → g.B.Source.left c.args.second.now ≡ Some seed → HasDrawn task seed seats =
-    λ seed told. rw c.in-Ok-gathered.is at c.in-Ok.ensures.draws seed told in
+    λ seed told. subst (HasDrawn task seed) (sym c.keep.ensures) (rw c.in-Ok-gathered.is at c.in-Ok.ensures.draws seed told) in
     let stand = e.seats.1.stand in
     record {
       gathers = λ bytes seed all told.

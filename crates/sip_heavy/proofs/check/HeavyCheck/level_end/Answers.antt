@@ -16,7 +16,7 @@ pub fold_level-requires : goal.fold_level-requires
 fold_level-requires g c =
     let tested = subst (λ (k : Kept). ◌≡◌ {A = Result (Unit {0}) Reason} (Ok c.in_default.field-0) (end_test (asked_of k) k.level k.nodes)) c.pass_all.ensures c.in_default.ensures in
     let all = passing_all c.args.self.now in
-    let kept = c.keep_heavy.ensures ∙ ap keeping c.pass_all.ensures in
+    let kept = c.keep_heavy.ensures ∙ ap (keeping g.F.Field.MODULUS) c.pass_all.ensures in
     let within = (ended_within (asked_of all) all.level all.nodes (sym tested)).1 in (
       search rules,
       (
@@ -29,12 +29,12 @@ pub returns-clause-answers : goal.returns-clause-answers
 returns-clause-answers g c q root challenges given taken =
     let p = g.F.Field.MODULUS in
     let tested = subst (λ (k : Kept). ◌≡◌ {A = Result (Unit {0}) Reason} (Ok c.in_default.field-0) (end_test (asked_of k) k.level k.nodes)) c.pass_all.ensures c.in_default.ensures in
-    end_answers p q root challenges given c.args.self.now taken (Ok tt) c.fold_level.new.self c.requires.left tested (c.fold_level.ensures ∙ ap (folded p) (c.keep_heavy.ensures ∙ ap keeping c.pass_all.ensures))
+    end_answers p q root challenges given c.args.self.now taken (Ok tt) c.fold_level.new.self c.requires.left tested (c.fold_level.ensures ∙ ap (folded p) (c.keep_heavy.ensures ∙ ap (keeping p) c.pass_all.ensures))
 
 pub returns-clause-known : goal.returns-clause-known
 returns-clause-known g c q root challenges given taken =
     let p = g.F.Field.MODULUS in
     let old = c.args.self.now in
-    let same = c.fold_level.ensures ∙ ap (folded p) (c.keep_heavy.ensures ∙ ap keeping c.pass_all.ensures) in
+    let same = c.fold_level.ensures ∙ ap (folded p) (c.keep_heavy.ensures ∙ ap (keeping p) c.pass_all.ensures) in
     ap (λ (k : Kept). k.known) same
     ∙ ap (nodes_above p (slice_index old.challenges old.level)) (sym (nodes_are p q root challenges given old taken))
