@@ -133,6 +133,7 @@ impl<H: Helps + Drop> Serving<H> {
     }
 
     // Puts bytes behind those of the frame that are there, too few for a look at it.
+    #[inline]
     fn gather(&mut self, bytes: &[u8])
         requires going { self.old.status ≡ None }
         requires begun { HasBegun H.rules H.turns_left H.is_live self.old }
@@ -148,11 +149,40 @@ impl<H: Helps + Drop> Serving<H> {
         self.lacking -= bytes.len();
     }
 
+    // Takes bytes that came, and looks at each frame as far as it came.
+    #[inline(never)]
+    fn hear<K: Sink>(&mut self, bytes: &[u8], out: &mut K) -> usize
+        requires begun { HasBegun H.rules H.turns_left H.is_live self.old }
+        ensures begun { HasBegun H.rules H.turns_left H.is_live self.new }
+        ensures most { result ≤ length bytes.now }
+        ensures all { self.new.status ≡ None → result ≡ length bytes.now }
+        ensures none { IsSome self.old.status → result ≡ 0 }
+        ensures passes { (first : H) (events : List AnyEvent)
+            → IsServed H.rules H.turns_left H.is_live first events self.old
+            → Passes (K.talk out.old) (K.talk out.new) (take result bytes.now) events
+            (λ all. IsServed H.rules H.turns_left H.is_live first all self.new) }
+        ensures cause { self.old.status ≡ None → self.new.status ≡ Some HelpStatus.PeerFault
+            → Rose (K.faults out.old) (K.faults out.new) }
+        ensures memory { self.old.status ≡ None → self.new.status ≡ Some HelpStatus.OutOfMemory
+            → Rose (K.wants out.old) (K.wants out.new) }
+        ensures lasts { Lasts K.faults K.wants K.is_sure out.old out.new }
+    {
+        let mut taken = 0;
+        while taken < bytes.len() {
+            if self.status.is_some() {
+                return taken;
+            }
+            taken += self.piece(&bytes[taken..], out);
+        }
+        taken
+    }
+
     /// Takes bytes that came, in any pieces, and answers how many: all of them while the talk goes
     /// on, and none behind its end. Each reply that is owed goes to `out`, and the refusal of a
     /// message out of turn.
     ///
     /// Where the sink fails, or memory is refused to it, that is how the talk ended.
+    #[inline]
     pub fn feed<K: Sink>(&mut self, bytes: &[u8], out: &mut K) -> usize
         requires begun { HasBegun H.rules H.turns_left H.is_live self.old }
         ensures begun { HasBegun H.rules H.turns_left H.is_live self.new }
@@ -173,14 +203,7 @@ impl<H: Helps + Drop> Serving<H> {
             self.gather(bytes);
             return bytes.len();
         }
-        let mut taken = 0;
-        while taken < bytes.len() {
-            if self.status.is_some() {
-                return taken;
-            }
-            taken += self.piece(&bytes[taken..], out);
-        }
-        taken
+        self.hear(bytes, out)
     }
 
     /// The other end closed, without a farewell where the talk had not ended.

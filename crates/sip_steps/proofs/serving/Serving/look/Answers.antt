@@ -23,9 +23,9 @@ returns-in-Part-clause-serves g c first before turns =
     let r = g.H.Helps.rules in
     let got = frame_bytes c.args.self.now.frame in
     let short = at_state (λ v p. length got < asked v p got) _ _ _ _ c.requires.version c.requires.place c.in-Part.ensures.judges.short in
-    let room : c.room.result ≡ room_for c.args.version c.args.place got = c.room.ensures.room ∙ ap (λ (l : List ℕ). room_for c.args.version c.args.place l) c.judge.ensures.bytes in
-    let lacks = at_state (λ v p. c.room.result ≤ room_for v p got) _ _ _ _ c.requires.version c.requires.place (omega (arith, room)) in
-    let s : Serving g.row.H.Denot = record c.args.self.now { frame = c.judge.new.self; lacking = c.room.result } in (
+    let room : c.room-self.result ≡ room_for c.args.version c.args.place got = c.room-self.ensures.room ∙ ap (λ (l : List ℕ). room_for c.args.version c.args.place l) c.judge.ensures.bytes in
+    let lacks = at_state (λ v p. c.room-self.result ≤ room_for v p got) _ _ _ _ c.requires.version c.requires.place (omega (arith, room)) in
+    let s : Serving g.row.H.Denot = record c.args.self.now { frame = c.judge.new.self; lacking = c.room-self.result } in (
       [],
       GoesOn-refl (g.K.Sink.talk c.args.out.now),
       still_served r g.H.Helps.turns_left g.H.Helps.is_live first ((before ++ ins got) ++ outs []) s c.requires.going
