@@ -170,8 +170,10 @@ fn a_whole_run_is_answered_in_pieces_of_any_size(rt: HostRuntime) -> Result<(), 
             &rt,
             "a whole run",
             &[
-                cut == (4, Some(HelpStatus::Served)),
-                whole == (4, Some(HelpStatus::Served)),
+                cut.0 == 4,
+                cut.1 == Some(HelpStatus::Served),
+                whole.0 == 4,
+                whole.1 == Some(HelpStatus::Served),
             ],
         );
     }

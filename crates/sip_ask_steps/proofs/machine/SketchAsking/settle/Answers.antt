@@ -1,5 +1,7 @@
 -- No answer is possible yet, or this is what came.
-use Rattle.std.proofs.Common.{◌≡◌, false, Ok, Err, Some, sym, ap, subst, ◌∙◌}
+use Rattle.std.proofs.Common.{◌≡◌, false, Option, Result, Ok, Err, Some, sym, ap, subst, ◌∙◌}
+use Rattle.sip_questions.specs.declared.asker.QuestionGiven.{QuestionGiven}
+use Rattle.sip_verifier.specs.declared.asker.Unanswered.{Unanswered}
 use Rattle.std.specs.Prelude.{IfSome}
 use Rattle.sip_verifier.specs.runs.Askers.{has_failed}
 use Rattle.sip_steps.specs.Questioned.{pairs_of}
@@ -49,4 +51,4 @@ returns-in-Err-clause-done c p events is =
 pub stopped_by-requires : goal.stopped_by-requires
 stopped_by-requires c =
     let came : c.verdict.result ≡ Some (Err c.in-Err.why) = c.in-Some.is ∙ ap (λ x. Some x) c.in-Err.is in
-    subst (λ r. IfSome r (λ said. has_failed said ≡ false)) came c.verdict.ensures.judged
+    subst (λ (r : Option (Result QuestionGiven Unanswered)). IfSome r (λ said. has_failed said ≡ false)) came c.verdict.ensures.judged
