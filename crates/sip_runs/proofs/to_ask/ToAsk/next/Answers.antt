@@ -1,5 +1,6 @@
 -- The first question is taken, and the others are left.
-use Rattle.std.proofs.Common.{◌≡◌, [], ◌∷◌, refl, rules}
+use Rattle.std.proofs.Common.{◌≡◌, ◌∷◌, length, refl, rules}
+use Rattle.std.proofs.lemmas.List.{nil_from_length}
 use Rattle.sip_runs.specs.declared.to_ask.ToAsk.{ToAsk}
 use Rattle.sip_runs.proofs.Firsts.{first_of, left_behind, none_behind}
 use Rattle.sip_runs.proofs.to_ask.ToAsk.next.Goals as goal
@@ -7,7 +8,8 @@ use Rattle.sip_runs.proofs.to_ask.ToAsk.next.Goals as goal
 pub returns-then-is_empty-clause-asked : goal.returns-then-is_empty-clause-asked
 returns-then-is_empty-clause-asked c p stream is =
     let a = c.args.self.now in
-    let none : a.seats.items ≡ [] = search rules in
+    let zero : length a.seats.items ≡ 0 = search rules in
+    let none = nil_from_length a.seats.items zero in
     (tt, none_behind p stream a a is refl refl none refl)
 
 pub returns-clause-asked : goal.returns-clause-asked
