@@ -28,6 +28,7 @@ use Rattle.sip_ask_steps.specs.declared.machine.SketchAsking.{SketchAsking}
 use Rattle.sip_ask_steps.specs.declared.step.Step.{Step}
 use Rattle.sip_ask_steps.specs.declared.step.Step.TheVariants as at
 use Rattle.sip_ask_steps.specs.declared.wants.Wants.TheVariants as wants
+use Rattle.sip_steps.proofs.Judged.{goes_on, hears_only}
 use Rattle.sip_ask_steps.proofs.Opening.{bad_ends, closed_ends, first_before, step_ends}
 use Rattle.sip_ask_steps.proofs.Settling.{way_more, way_stored}
 use Rattle.sip_ask_steps.proofs.Standing.{left_ends}
@@ -182,6 +183,35 @@ module _ (p : Plan) (events : List TalkEvent) (m : SketchAsking) (held kept : He
           turns = c.1.turns;
         },
       )
+
+-- ---- it waits exactly where bytes are to come
+
+waits_if : (b : Bool) → (if b then wants.Due else wants.Waits) ≡ wants.Waits → b ≡ false
+waits_if true e = absurd cc
+waits_if false e = refl
+
+pub waits_hears : (p : Plan) (events : List TalkEvent) (m : SketchAsking) → IsDone p events m → wants_at m.step ≡ wants.Waits → is_hearing_at m.step ≡ true
+waits_hears p events m is waits = by_step m.step is.at waits
+  where
+    by_step : (step : Step) → At p events m step → wants_at step ≡ wants.Waits → is_hearing_at step ≡ true
+    by_step at.Hearing own e = refl
+    by_step (at.Asking a) own e = goes_on a own.unjudged (waits_if (questioned.is_due_at a) e)
+    by_step at.Opening own e = absurd cc
+    by_step (at.Storing a) own e = absurd cc
+    by_step (at.Answered given a) own e = absurd cc
+    by_step (at.Idle query) own e = absurd cc
+    by_step at.Leaving own e = absurd cc
+    by_step (at.Ended status) own e = absurd cc
+
+pub hears_waits : (step : Step) → is_hearing_at step ≡ true → wants_at step ≡ wants.Waits
+hears_waits at.Hearing hears = refl
+hears_waits (at.Asking a) hears = ap (λ (b : Bool). if b then wants.Due else wants.Waits) (hears_only a hears)
+hears_waits at.Opening hears = absurd cc
+hears_waits (at.Storing a) hears = absurd cc
+hears_waits (at.Answered given a) hears = absurd cc
+hears_waits (at.Idle query) hears = absurd cc
+hears_waits at.Leaving hears = absurd cc
+hears_waits (at.Ended status) hears = absurd cc
 
 -- ---- where nothing is to come or to be stored
 

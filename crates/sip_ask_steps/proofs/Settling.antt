@@ -1,5 +1,6 @@
 -- What is said of the question at hand, and what came of it.
 use Rattle.std.proofs.Common.{◌≡◌, ℕ, suc, Result, Ok, Err, Option, Some, None, List, [], ◌++◌, sym, ap, subst, ◌∙◌, inl, true, false, append_assoc, append-nil}
+use Rattle.std.specs.Prelude.{is_none}
 use Rattle.sip_ports.specs.Desk.{IsOfLink, steps}
 use Rattle.sip_ports.specs.declared.port.TalkEvent.{TalkEvent}
 use Rattle.sip_ports.proofs.DeskLemmas.{IsOfLink-append}
@@ -26,7 +27,7 @@ use Rattle.sip_steps.specs.declared.looking.LookStep.TheVariants as looks
 use Rattle.sip_steps.specs.Asked.{end_heard}
 use Rattle.sip_steps.specs.Looked as looked
 use Rattle.sip_steps.specs.Posed.{stage_at}
-use Rattle.sip_steps.specs.Questioned.{About, ComesTo, IsAskedOf, IsOf, end_of}
+use Rattle.sip_steps.specs.Questioned.{About, ComesTo, IsAskedOf, IsOf, end_of, is_open_at}
 use Rattle.sip_ask_steps.specs.Plans.{Ends, IsPlan, Plan, version_of}
 use Rattle.sip_ask_steps.specs.Steps.{IsAsking, IsBefore, IsPast, IsToStore, IsUnderWay, stopped_by}
 use Rattle.sip_ask_steps.specs.Told.{IsTold}
@@ -122,9 +123,10 @@ module _ (p : Plan) (sketch : SketchValues) (number : ℕ) (left : List Turn) wh
     module _ (result : Option (Result QuestionGiven Unanswered))
         (comes : (q : About) (stream : List Update) (said : List TalkEvent) → IsOf q stream → IsAskedOf q said a → ComesTo q stream said entries result) where
       -- nothing yet
-      pub settled_open : result ≡ None → IsAsking p sketch number left events a
-      settled_open none = record {
+      pub settled_open : result ≡ None → is_none result ≡ is_open_at a → IsAsking p sketch number left events a
+      settled_open none open_so = record {
         way = w;
+        unjudged = sym open_so ∙ ap is_none none;
         waits = λ stream stands. subst (Came (version_of p) p.sketch.depth w.question (block_at w.place p.sketch.seats) stream) none (came_as result comes stream stands);
       }
 

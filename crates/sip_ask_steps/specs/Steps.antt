@@ -150,6 +150,7 @@ module _ (p : Plan) (sketch : SketchValues) (number : ℕ) (left : List Turn) wh
   -- and no answer is possible by it, about any stream that the sketch stands for
   pub record IsAsking (events : List TalkEvent) (a : QuestionAsking) : Type 0 where
     pub way : IsUnderWay events a
+    pub unjudged : questioned.is_open_at a ≡ true
     pub waits : (stream : List Update) → Stands stream p.sketch
         → IsInterrupted (manner_of p stream) way.question (block_at way.place p.sketch.seats)
         (Some []) (Some way.said)
@@ -274,7 +275,8 @@ Compares p events held m = Kept p m × Fresh p m
     × (events ≡ recalled p ++ held_heard (version_of p) held)
     × IsTrue (fits (version_of p) (messages.Held held))
 
--- how asking ends where the question with this number has no answer for this
+-- How asking ends where the question with this number has no answer for this. Without a link only
+-- the first is met.
 abbrev pub stopped_by : ℕ → Unanswered → AskStatus
 stopped_by number (unanswered.Rejected round reason) = statuses.Rejected number round reason
 stopped_by number (unanswered.Fault faults.PeerFault) = statuses.PeerFault

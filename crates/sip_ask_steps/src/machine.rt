@@ -1,10 +1,12 @@
 //! A sketch that is asked without a link: what it has, and what is seen of it.
 
-ghost use Rattle.std.specs.Prelude.{◌≡◌, ℕ, List, IfSome};
+ghost use Rattle.std.specs.Prelude.{◌≡◌, ℕ, List, IfSome, true};
 ghost use Rattle.sip_ports.specs.declared.port.TalkEvent.{TalkEvent as AnyEvent};
 ghost use Rattle.sip_ask_steps.specs.Plans.{Plan};
-ghost use Rattle.sip_ask_steps.specs.Steps.{IsDone, answer_at, file_at, pairs_at, wants_at};
+ghost use Rattle.sip_ask_steps.specs.Steps.{IsDone, answer_at, file_at, is_hearing_at, pairs_at};
+ghost use Rattle.sip_ask_steps.specs.Steps.{wants_at};
 ghost use Rattle.sip_ask_steps.specs.Told.{IsTold};
+ghost use Rattle.sip_ask_steps.specs.declared.wants.Wants.TheVariants as wants;
 
 use crate::step::Step;
 use crate::turn::Turn;
@@ -41,9 +43,12 @@ pub struct SketchAsking {
 }
 
 impl SketchAsking {
-    /// What is wanted now.
+    /// What is wanted now: it waits exactly where bytes are to come.
     pub fn wants(&self) -> Wants
-        ensures { result ≡ wants_at self.now.step }
+        ensures is { result ≡ wants_at self.now.step }
+        ensures waits { (p : Plan) (events : List AnyEvent) → IsDone p events self.now
+            → result ≡ wants.Waits → is_hearing_at self.now.step ≡ true }
+        ensures hears { is_hearing_at self.now.step ≡ true → result ≡ wants.Waits }
     {
         match &self.step {
             Step::Opening | Step::Leaving => Wants::Due,

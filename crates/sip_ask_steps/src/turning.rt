@@ -1,8 +1,10 @@
 //! How one question follows another.
 
 ghost use Rattle.std.specs.Prelude.{◌≡◌, ◌≢◌, ◌≤◌, ◌<◌, ◌++◌, [], List, length, false, true};
-ghost use Rattle.std.specs.Prelude.{IfNone, option_to_list, vec_capacity};
+ghost use Rattle.std.specs.Prelude.{Err, IfNone, option_to_list, vec_capacity};
 ghost use Rattle.sip_ports.specs.declared.port.TalkEvent.{TalkEvent as AnyEvent};
+ghost use Rattle.sip_verifier.specs.runs.Askers.{has_failed};
+ghost use Rattle.sip_questions.specs.declared.asker.QuestionGiven.{QuestionGiven};
 ghost use Rattle.sip_sketch.specs.Sketches.{size_of, spelled_file};
 ghost use Rattle.sip_ask.specs.Marking.{mark};
 ghost use Rattle.sip_ask_steps.specs.Plans.{Plan};
@@ -16,11 +18,12 @@ use crate::step::Step;
 use crate::turn::Turn;
 use sip_ask::AskStatus;
 use sip_sketch::Sketch;
-use sip_verifier::{SessionFault, Unanswered};
+use sip_verifier::Unanswered;
 use std::mem;
 
 // How asking ends where the question with this number has no answer.
 fn stopped_by(number: u8, why: Unanswered) -> AskStatus
+    requires { has_failed {G = QuestionGiven} (Err why) ≡ false }
     ensures { result ≡ stopped_by number why }
 {
     match why {
@@ -29,9 +32,8 @@ fn stopped_by(number: u8, why: Unanswered) -> AskStatus
             round,
             reason,
         },
-        // What follows comes on links alone.
-        Unanswered::Fault(SessionFault::PeerFault) => AskStatus::PeerFault,
-        Unanswered::Fault(_) => AskStatus::OutOfMemory,
+        // It comes on links alone.
+        Unanswered::Fault(_) => unreachable!(),
     }
 }
 

@@ -27,7 +27,7 @@ fn update(item: u64, delta: i64) -> Update {
     }
 }
 
-const UPDATES: [Update; 3] = [
+pub(crate) const UPDATES: [Update; 3] = [
     Update {
         side: Side::First,
         item: 0,

@@ -8,3 +8,5 @@ mod facts;
 mod following_tests;
 #[cfg(test)]
 mod passing;
+#[cfg(test)]
+mod whole_run_tests;

@@ -8,4 +8,5 @@ pub mod Weighed
 pub mod SentOn
 pub mod AtEnd
 pub mod Drawn
+pub mod Firsts
 pub mod Fronts

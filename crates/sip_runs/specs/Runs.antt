@@ -1,6 +1,6 @@
 -- A run without a link: what is asked of a stream, what was said so far, and what is due.
 use Rattle.std.specs.Prelude.{◌≡◌, ◌<◌, ◌≤◌, ◌*◌, ◌%◌, ℕ, Bool, true, false, All, List, []}
-use Rattle.std.specs.Prelude.{◌∷◌, ◌++◌, length, take, Some, None, Result, Ok, Err}
+use Rattle.std.specs.Prelude.{◌∷◌, ◌++◌, length, take, drop, Some, None, Result, Ok, Err}
 use Rattle.sip_ports.specs.declared.port.TalkEvent.{TalkEvent}
 use Rattle.sip_vector.specs.declared.update.Update.{Update}
 use Rattle.sip_vector.specs.Streams.{IsLegal}
@@ -12,10 +12,12 @@ use Rattle.sip_wire.specs.Versions.{deepest, number_of}
 use Rattle.sip_stream.specs.Records.{update_fault}
 use Rattle.sip_verifier.specs.Draws.{challenges_of}
 use Rattle.sip_verifier.specs.Feeding.{due_at_end}
+use Rattle.sip_verifier.specs.Running.{block_of}
 use Rattle.sip_verifier.specs.Talks.{opening_sent, stream_sent}
 use Rattle.sip_questions.specs.declared.question.Question.{Question}
 use Rattle.sip_runs.specs.declared.measure.BadUpdate.{BadUpdate}
 use Rattle.sip_runs.specs.declared.following.Following.{Following}
+use Rattle.sip_runs.specs.declared.seat.RunSeat.{RunSeat}
 use Rattle.sip_runs.specs.declared.start.RunStart.{RunStart}
 use Rattle.sip_runs.specs.declared.start.RunStart.TheVariants as starts
 use Rattle.sip_runs.specs.declared.to_ask.ToAsk.{ToAsk}
@@ -164,3 +166,13 @@ pub record IsToBeAsked (p : Plan) (stream : List Update) (t : ToAsk) : Type 0 wh
   pub at_blocks : blocks_of t.seats.items ≡ p.blocks
   pub legal : IsLegal p.depth stream
   pub seated : All (IsSeated p.version p.depth stream) t.seats.items
+
+-- what is asked behind the first question
+abbrev pub behind_first : Plan → Plan
+behind_first p = record p { questions = drop 1 p.questions; blocks = drop 1 p.blocks }
+
+-- the first question, at its challenges, with the running numbers of this stream
+pub record IsFirstOf (p : Plan) (stream : List Update) (s : RunSeat) : Type 0 where
+  pub question : p.questions ≡ s.question ∷ drop 1 p.questions
+  pub block : p.blocks ≡ block_of s.running ∷ drop 1 p.blocks
+  pub seated : IsSeated p.version p.depth stream s

@@ -1,9 +1,12 @@
 //! The questions of a run behind its stream, in their order.
 
-ghost use Rattle.std.specs.Prelude.{◌≡◌, ◌++◌, ℕ, option_to_list, length};
+ghost use Rattle.std.specs.Prelude.{◌≡◌, ◌++◌, [], ℕ, List, IfNone, IfSome, option_to_list, length};
+ghost use Rattle.sip_vector.specs.declared.update.Update.{Update as AnyUpdate};
 ghost use Rattle.sip_ports.specs.Ports.{HasCause, SendsWhole};
 ghost use Rattle.sip_wire.specs.Spelling.{spelling};
 ghost use Rattle.sip_wire.specs.declared.message.Message.TheVariants as messages;
+ghost use Rattle.sip_runs.specs.Plans.{Plan};
+ghost use Rattle.sip_runs.specs.Runs.{IsFirstOf, IsToBeAsked, behind_first};
 
 use crate::seat::RunSeat;
 use sip_ports::{PortStop, Sink};
@@ -60,6 +63,9 @@ impl ToAsk {
     /// The seat of the next question, in the order of the run; `None` behind the last one.
     pub fn next(&mut self) -> Option<RunSeat>
         ensures order { self.old.seats.items ≡ option_to_list result ++ self.new.seats.items }
+        ensures none { IfNone result (self.old.seats.items ≡ []) }
+        ensures asked { (p : Plan) (stream : List AnyUpdate) → IsToBeAsked p stream self.old
+            → IfSome result (IsFirstOf p stream) × IsToBeAsked (behind_first p) stream self.new }
         ensures version { self.new.version ≡ self.old.version }
         ensures depth { self.new.depth ≡ self.old.depth }
     {

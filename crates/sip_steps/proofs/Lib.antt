@@ -3,6 +3,8 @@ pub mod Beginnings
 pub mod Calls
 pub mod Cases
 pub mod Founds
+pub mod Judged
+pub mod Lacking
 pub mod LookSteps
 pub mod Lookings
 pub mod OneQuestion

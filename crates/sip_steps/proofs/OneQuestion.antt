@@ -13,7 +13,7 @@ use Rattle.sip_replies.specs.declared.turn.Turn.{Turn}
 use Rattle.sip_replies.specs.Feeding.{IsFed}
 use Rattle.sip_replies.specs.Following.{Follows, FollowsAt, due_message, is_due, is_hearing, is_open}
 use Rattle.sip_replies.specs.Protocols.{Protocol}
-use Rattle.sip_replies.proofs.Fed.{HasFault-ended, short_empty}
+use Rattle.sip_replies.proofs.Fed.{HasFault-ended, events_more, short_empty}
 use Rattle.sip_replies.proofs.Stepping.{Follows-sent, IsRejected-fault, at_stage}
 use Rattle.sip_steps.specs.declared.asking.Asking.{Asking}
 use Rattle.sip_steps.specs.Asked.{due_bytes, end_heard}
@@ -85,6 +85,16 @@ module _ {S : Type 0} (P : Protocol S) (request : Message) (block : List ℕ) (e
         short = fed.short;
         quiet = λ silent. none;
       }
+
+  -- more bytes came of the frame that is coming, which do not make it whole
+  pub IsFed-more : is_hearing turn.stage ≡ true → (piece now : List ℕ) → now ≡ part ++ piece → ((s : S) → Stands s → length now < asked turn.version (P.rules.place s) now) → IsFed P request block (events ++ ins piece) Stands places turn now
+  IsFed-more hearing piece now more short = record {
+    before = fed.before;
+    follows = fed.follows;
+    last = sym (events_more fed.before events part now piece fed.last more);
+    short = short;
+    quiet = λ silent. absurd (no_verdict (sym silent ∙ hearing));
+  }
 
   -- the other end closed while bytes were to come
   pub IsFed-ended : is_hearing turn.stage ≡ true → (now : List ℕ) → now ≡ [] → IsFed P request block (events ++ Ended ∷ []) Stands places (record turn { stage = stages.Rejected turn.round reasons.Closed }) now

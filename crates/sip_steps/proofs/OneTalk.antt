@@ -1,5 +1,5 @@
 -- A helper's end of a talk without a link, step by step.
-use Rattle.std.proofs.Common.{◌≡◌, ◌⊎◌, ℕ, ◌+◌, ◌<◌, ◌≤◌, ◌++◌, Bool, false, Option, None, Some, Result, Ok, Err, List, [], ◌∷◌, length, take, inl, inr, refl, sym, ap, subst, ◌∙◌, append_assoc, append-nil}
+use Rattle.std.proofs.Common.{◌≡◌, ◌⊎◌, ℕ, ◌+◌, ◌-◌, ◌<◌, ◌≤◌, ◌++◌, Bool, false, Option, None, Some, Result, Ok, Err, List, [], ◌∷◌, length, take, inl, inr, refl, sym, ap, subst, ◌∙◌, arith, append_assoc, append-nil}
 use Rattle.std.specs.Prelude.{IsSome, IsTrue, is_some}
 use Rattle.sip_ports.specs.declared.port.TalkEvent.{TalkEvent}
 use Rattle.sip_ports.specs.declared.port.TalkEvent.TheVariants.{Ended}
@@ -12,7 +12,7 @@ use Rattle.sip_wire.specs.declared.version.Version.{Version}
 use Rattle.sip_wire.specs.Decoding.{Took}
 use Rattle.sip_wire.specs.Frames.{frame_bytes}
 use Rattle.sip_wire.specs.Spelling.{asked}
-use Rattle.sip_wire.specs.Taking.{ShowsFault}
+use Rattle.sip_wire.specs.Taking.{ShowsFault, room_for}
 use Rattle.sip_wire.proofs.ReadingLaws.{read_frame-closed, read_frame-short}
 use Rattle.sip_replies.proofs.Fed.{events_more, short_empty}
 use Rattle.sip_helper.specs.declared.status.HelpStatus.{HelpStatus}
@@ -24,6 +24,7 @@ use Rattle.sip_helper.proofs.Talks.{ends, goes_on}
 use Rattle.sip_helper.proofs.Turning.{turn_taken}
 use Rattle.sip_steps.specs.declared.serving.Serving.{Serving}
 use Rattle.sip_steps.specs.Served.{Goes, IsServed, IsServedBy, Passes}
+use Rattle.sip_steps.proofs.Lacking.{lacking_less, lacking_short}
 
 -- ---- what was sent, apart from what came
 
@@ -103,24 +104,42 @@ module _ {S : Type 0} (r : TurnRules S) (left : S → ℕ) (first s : S) (before
 
 module _ {H : Type 0} (r : TurnRules H) (left : H → ℕ) (is_live : H → Bool) (first : H) (s : Serving H) (before : List TalkEvent) (turns : UnderWay r left first 0 (Some []) (Some before) s.helper s.offset) (live : IsTrue (is_live s.helper)) where
   -- a part of a frame lies ready
-  pub goes_on_part : (got : List ℕ) → frame_bytes s.frame ≡ got → length got < asked (r.version s.helper) (r.place s.helper) got → Goes r left is_live first ((before ++ ins got) ++ outs []) s
-  goes_on_part got same short = record {
+  pub goes_on_part : (got : List ℕ) → frame_bytes s.frame ≡ got → length got < asked (r.version s.helper) (r.place s.helper) got → s.lacking ≤ room_for (r.version s.helper) (r.place s.helper) got → Goes r left is_live first ((before ++ ins got) ++ outs []) s
+  goes_on_part got same short lacks = record {
     before = before;
     turns = turns;
     live = live;
     last = append-nil (before ++ ins got) ∙ ap (λ (l : List ℕ). before ++ ins l) (sym same);
     short = subst (λ (l : List ℕ). length l < asked (r.version s.helper) (r.place s.helper) l) (sym same) short;
+    lacks = subst (λ (l : List ℕ). s.lacking ≤ room_for (r.version s.helper) (r.place s.helper) l) (sym same) lacks;
   }
 
   -- no byte of the next frame came
-  pub goes_on_whole : frame_bytes s.frame ≡ [] → Goes r left is_live first before s
-  goes_on_whole none = record {
+  pub goes_on_whole : frame_bytes s.frame ≡ [] → s.lacking ≡ 0 → Goes r left is_live first before s
+  goes_on_whole none unknown = record {
     before = before;
     turns = turns;
     live = live;
     last = sym (ap (λ (l : List ℕ). before ++ ins l) none ∙ append-nil before);
     short = short_empty (r.version s.helper) (r.place s.helper) (frame_bytes s.frame) none;
+    lacks = omega (arith, unknown);
   }
+
+-- more of it came, which does not make it whole
+pub goes_on_more : {H : Type 0} (r : TurnRules H) (left : H → ℕ) (is_live : H → Bool) (first : H) (events : List TalkEvent) (old new : Serving H) → Goes r left is_live first events old → (piece : List ℕ) → length piece < old.lacking → new ≡ record old { frame = new.frame; lacking = old.lacking - length piece }
+    → frame_bytes new.frame ≡ frame_bytes old.frame ++ piece → Goes r left is_live first (events ++ ins piece) new
+goes_on_more r left is_live first events old new goes piece few is more =
+    let version = r.version old.helper in
+    let place = r.place old.helper in
+    let got = frame_bytes old.frame in
+    subst (λ (s : Serving _). Goes r left is_live first (events ++ ins piece) s) (sym is) (record {
+      before = goes.before;
+      turns = goes.turns;
+      live = goes.live;
+      last = sym (events_more goes.before events got (frame_bytes new.frame) piece goes.last more);
+      short = subst (λ (l : List ℕ). length l < asked version place l) (sym more) (lacking_short version place got piece old.lacking goes.lacks few);
+      lacks = subst (λ (l : List ℕ). old.lacking - length piece ≤ room_for version place l) (sym more) (lacking_less version place got piece old.lacking goes.lacks few);
+    })
 
 -- there is none where it is not that there is some
 pub none_of : {X : Type 0} (o : Option X) → is_some o ≡ false → o ≡ None
@@ -153,6 +172,15 @@ passes_piece old new events before part now piece sent After last more went afte
 -- nothing came and nothing was sent
 pub passes_none : (old : Option (List TalkEvent)) (events : List TalkEvent) (After : List TalkEvent → Type 0) → GoesOn old old [] → After events → Passes old old [] events After
 passes_none old events After same after = record { more = []; came = refl; went = same; after = subst After (sym (append-nil events)) after }
+
+-- bytes came and nothing was sent
+pub passes_took : (old : Option (List TalkEvent)) (events : List TalkEvent) (piece : List ℕ) (After : List TalkEvent → Type 0) → GoesOn old old [] → After (events ++ ins piece) → Passes old old piece events After
+passes_took old events piece After same after = record {
+  more = ins piece;
+  came = heard-ins piece;
+  went = subst (λ (l : List ℕ). GoesOn old old (outs l)) (sym (written-ins piece)) same;
+  after = after;
+}
 
 -- more came behind what came
 pub passes_more : (old mid new : Option (List TalkEvent)) (one two : List ℕ) (events : List TalkEvent) (During After : List TalkEvent → Type 0) → Passes old mid one events During → ((all : List TalkEvent) → During all → Passes mid new two all After) → Passes old new (one ++ two) events After

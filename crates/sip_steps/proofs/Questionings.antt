@@ -90,7 +90,7 @@ open_asks q stream events entries opening (stages.Said said) none x = absurd cc
 open_asks q stream events entries opening (stages.Rejected round reason) none x = absurd cc
 
 -- a verdict is what is asked at its stage
-said_at : (stage : Stage) (r : Result Said AskStop) → verdict_of stage ≡ Some r → asked_at stage ≡ r
+pub said_at : (stage : Stage) (r : Result Said AskStop) → verdict_of stage ≡ Some r → asked_at stage ≡ r
 said_at (stages.Said said) r is = cc
 said_at (stages.Rejected round reason) r is = cc
 said_at stages.Asks r is = absurd cc

@@ -1,11 +1,12 @@
 -- A question that is asked without a link: what its bytes so far are a talk of.
-use Rattle.std.specs.Prelude.{◌≡◌, ℕ, true, List, [], ◌∷◌, IsTrue, take, if◌then◌else◌}
+use Rattle.std.specs.Prelude.{◌≡◌, ◌≤◌, ℕ, true, List, [], ◌∷◌, IsTrue, take, if◌then◌else◌}
 use Rattle.sip_ports.specs.declared.port.TalkEvent.{TalkEvent}
 use Rattle.sip_ports.specs.declared.port.TalkEvent.TheVariants.{Ended}
 use Rattle.sip_vector.specs.declared.update.Entry.{Entry}
 use Rattle.sip_wire.specs.declared.message.Message.{Message}
 use Rattle.sip_wire.specs.Frames.{frame_bytes}
 use Rattle.sip_wire.specs.Spelling.{fits, spelling}
+use Rattle.sip_wire.specs.Taking.{room_for}
 use Rattle.sip_replies.specs.declared.check.Said.TheVariants as saids
 use Rattle.sip_replies.specs.declared.turn.Stage.{Stage}
 use Rattle.sip_replies.specs.declared.turn.Stage.TheVariants as stages
@@ -29,7 +30,8 @@ pairs_of (stages.Said (saids.Pairs found)) places = take found places
 pairs_of _ places = []
 
 -- These events are a talk of what is asked, as far as the turn is. The last bytes may be a part of
--- a frame. `stands` says of a state that a check and its places stand for it.
+-- a frame, which is not looked at again before so many more came as it lacks. `stands` says of a
+-- state that a check and its places stand for it.
 pub record IsAsked {C Q S : Type 0} (P : Protocol S) (stands : S → C → List Entry → Type 0)
     (phase : C → Phase) (message : Q → Message) (request : Message) (block : List ℕ)
     (events : List TalkEvent) (a : Asking C Q) : Type 0 where
@@ -39,6 +41,8 @@ pub record IsAsked {C Q S : Type 0} (P : Protocol S) (stands : S → C → List 
       a.turn (frame_bytes a.frame)
   pub at : is_open a.turn.stage ≡ true → IsAt a.turn (phase a.check)
   pub block_is : is_open a.turn.stage ≡ true → (phase a.check).block ≡ block
+  pub lacks : is_hearing a.turn.stage ≡ true → (s : S) → stands s a.check a.places.items
+      → a.lacking ≤ room_for a.turn.version (P.rules.place s) (frame_bytes a.frame)
 
 -- It was begun, and nothing but its own calls changed it: its events are some talk of what it asks.
 abbrev pub IsBegun : {C Q A S : Type 0} → (A → Protocol S) → (A → S → C → List Entry → Type 0)

@@ -1,14 +1,14 @@
 -- A question of any kind that is asked without a link: what its bytes so far are a talk of, in the
 -- manner of questions.
 use Rattle.std.specs.Prelude.{◌≡◌, ◌≤◌, ℕ, Bool, List, [], length, Option, None, Some, Result}
-use Rattle.std.specs.Prelude.{Ok, Err, ℤ}
+use Rattle.std.specs.Prelude.{Ok, Err, ℤ, not}
 use Rattle.sip_ports.specs.declared.port.TalkEvent.{TalkEvent}
 use Rattle.sip_vector.specs.declared.update.Entry.{Entry}
 use Rattle.sip_vector.specs.declared.update.Update.{Update}
 use Rattle.sip_wire.specs.declared.version.Version.{Version}
 use Rattle.sip_replies.specs.declared.asking.AskStop.{AskStop}
 use Rattle.sip_replies.specs.declared.check.Said.{Said}
-use Rattle.sip_replies.specs.Following.{is_due, is_hearing}
+use Rattle.sip_replies.specs.Following.{is_due, is_hearing, is_open}
 use Rattle.sip_verifier.specs.declared.asker.Unanswered.{Unanswered}
 use Rattle.sip_verifier.specs.declared.running.Running.{Running}
 use Rattle.sip_verifier.specs.inside.Judging as judging
@@ -103,6 +103,11 @@ is_due_at (askings.Looked l) = looks.is_due_at l.step
 abbrev pub is_hearing_at : QuestionAsking → Bool
 is_hearing_at (askings.Posed p) = is_hearing (stage_at p)
 is_hearing_at (askings.Looked l) = looks.is_hearing_at l.step
+
+-- there is no verdict yet
+abbrev pub is_open_at : QuestionAsking → Bool
+is_open_at (askings.Posed p) = is_open (stage_at p)
+is_open_at (askings.Looked l) = not (looks.is_judged l.step)
 
 -- the bytes that are to be sent
 abbrev pub due_of : QuestionAsking → List ℕ

@@ -1,11 +1,12 @@
 -- A helper's end of a talk without a link: what its bytes so far are.
-use Rattle.std.specs.Prelude.{◌≡◌, ℕ, ◌<◌, Bool, List, [], ◌∷◌, ◌++◌, IsTrue, length, Option, Some}
-use Rattle.std.specs.Prelude.{None, is_none, if◌then◌else◌}
+use Rattle.std.specs.Prelude.{◌≡◌, ℕ, ◌<◌, ◌≤◌, Bool, List, [], ◌∷◌, ◌++◌, IsTrue, length, Option}
+use Rattle.std.specs.Prelude.{Some, None, is_none, if◌then◌else◌}
 use Rattle.sip_ports.specs.declared.port.TalkEvent.{TalkEvent}
 use Rattle.sip_ports.specs.declared.port.TalkEvent.TheVariants.{Ended}
 use Rattle.sip_ports.specs.Ports.{GoesOn, heard, ins, outs, written}
 use Rattle.sip_wire.specs.Frames.{frame_bytes}
 use Rattle.sip_wire.specs.Spelling.{asked}
+use Rattle.sip_wire.specs.Taking.{room_for}
 use Rattle.sip_helper.specs.declared.status.HelpStatus.{HelpStatus}
 use Rattle.sip_helper.specs.Rules.{ServesBy, TurnRules}
 use Rattle.sip_helper.specs.UnderWay.{UnderWay}
@@ -13,7 +14,8 @@ use Rattle.sip_steps.specs.declared.serving.Serving.{Serving}
 
 module _ {H : Type 0} (r : TurnRules H) (left : H → ℕ) (is_live : H → Bool) (first : H)
     (events : List TalkEvent) where
-  -- these events are whole turns, each with its reply, and behind them a part of a frame
+  -- These events are whole turns, each with its reply, and behind them a part of a frame, which is
+  -- not looked at again before so many more bytes came as it lacks.
   pub record Goes (s : Serving H) : Type 0 where
     pub before : List TalkEvent
     pub turns : UnderWay r left first 0 (Some []) (Some before) s.helper s.offset
@@ -21,6 +23,7 @@ module _ {H : Type 0} (r : TurnRules H) (left : H → ℕ) (is_live : H → Bool
     pub last : events ≡ before ++ ins (frame_bytes s.frame)
     pub short : length (frame_bytes s.frame)
         < asked (r.version s.helper) (r.place s.helper) (frame_bytes s.frame)
+    pub lacks : s.lacking ≤ room_for (r.version s.helper) (r.place s.helper) (frame_bytes s.frame)
 
   -- by how the talk ended, where it did
   abbrev pub IsServedBy : Serving H → Option HelpStatus → Type 0

@@ -1,12 +1,13 @@
 //! One question, asked without a link.
 
-ghost use Rattle.std.specs.Prelude.{◌≡◌, ◌≤◌, ◌++◌, [], ℕ, List, false, true, length, take, IfOk};
-ghost use Rattle.std.specs.Prelude.{IsTrue, OnOk, OnErr, Ok, Some};
+ghost use Rattle.std.specs.Prelude.{◌≡◌, ◌≤◌, ◌<◌, ◌++◌, [], ℕ, List, false, true, length, take};
+ghost use Rattle.std.specs.Prelude.{IfOk, IsTrue, OnOk, OnErr, Ok, Some};
 ghost use Rattle.sip_ports.specs.declared.port.TalkEvent.{TalkEvent as AnyEvent};
 ghost use Rattle.sip_ports.specs.Ports.{HasCause, SendsWhole, ins, outs};
 ghost use Rattle.sip_wire.specs.declared.message.Message.{Message as AnyMessage};
 ghost use Rattle.sip_wire.specs.Frames.{frame_bytes};
 ghost use Rattle.sip_wire.specs.Spelling.{fits};
+ghost use Rattle.sip_wire.specs.Taking.{room_for};
 ghost use Rattle.sip_replies.specs.Following.{is_due, is_hearing, verdict_of};
 ghost use Rattle.sip_replies.specs.Protocols.{Begins};
 ghost use Rattle.sip_steps.specs.Asked.{IsAsked, IsBegun, due_bytes, end_heard, pairs_of};
@@ -31,6 +32,9 @@ pub struct Asking<C: Check + Drop, Q: Request + Drop> {
     places: Vec<Entry>,
     frame: Frame,
     turn: Turn,
+    // While bytes are to come, how many of them the frame takes before it is looked at: up to the
+    // end of its head, and then up to its own.
+    lacking: usize,
 }
 
 impl<C: Check + Drop, Q: Request + Drop> Asking<C, Q> {
@@ -86,7 +90,18 @@ impl<C: Check + Drop, Q: Request + Drop> Asking<C, Q> {
             places,
             frame,
             turn,
+            lacking: 0,
         }
+    }
+
+    // How many bytes the frame takes before it is looked at.
+    fn room(&self) -> usize
+        ensures { (asked : C.Asked) (s : C.State)
+            → C.stands asked s self.now.check self.now.places.items
+            → result ≡ room_for self.now.turn.version ((C.protocol asked).rules.place s)
+            (frame_bytes self.now.frame) }
+    {
+        self.frame.room(self.check.place(), self.turn.version())
     }
 
     /// What is asked.
@@ -135,12 +150,52 @@ impl<C: Check + Drop, Q: Request + Drop> Asking<C, Q> {
         }
         self.turn.send(&self.request, out)?;
         self.turn.sent();
+        self.lacking = self.room();
         Ok(())
+    }
+
+    // Puts bytes behind those of the frame that are there, too few for a look at it.
+    #[inline]
+    fn gather(&mut self, bytes: &[u8])
+        requires begun { IsBegun C.protocol C.stands C.phase Q.message self.old }
+        requires hears { is_hearing self.old.turn.stage ≡ true }
+        requires few { length bytes.now < self.old.lacking }
+        ensures turn { self.new.turn ≡ self.old.turn }
+        ensures asked { (asked : C.Asked) (request : AnyMessage) (block : List ℕ)
+            (events : List AnyEvent) → IsAsked (C.protocol asked) (C.stands asked) C.phase
+            Q.message request block events self.old
+            → IsAsked (C.protocol asked) (C.stands asked) C.phase Q.message request block
+            (events ++ ins bytes.now) self.new }
+    {
+        self.frame
+            .put(self.check.place(), self.turn.version(), bytes);
+        self.lacking -= bytes.len();
+    }
+
+    // Takes bytes of replies, and looks at each frame as far as it came.
+    #[inline(never)]
+    fn hear(&mut self, bytes: &[u8]) -> usize
+        requires begun { IsBegun C.protocol C.stands C.phase Q.message self.old }
+        requires hears { is_hearing self.old.turn.stage ≡ true }
+        ensures most { result ≤ length bytes.now }
+        ensures all { is_hearing self.new.turn.stage ≡ true → result ≡ length bytes.now }
+        ensures asked { (asked : C.Asked) (request : AnyMessage) (block : List ℕ)
+            (events : List AnyEvent) → IsAsked (C.protocol asked) (C.stands asked) C.phase
+            Q.message request block events self.old
+            → IsAsked (C.protocol asked) (C.stands asked) C.phase Q.message request block
+            (events ++ ins (take result bytes.now)) self.new }
+    {
+        let taken = self
+            .turn
+            .feed(&mut self.check, &mut self.places, &mut self.frame, bytes);
+        self.lacking = self.room();
+        taken
     }
 
     /// Takes bytes that came, in any pieces, and answers how many. It takes all of them while it
     /// waits, and none behind a verdict, or behind a whole reply where bytes are due: those stay
     /// with the caller.
+    #[inline]
     pub fn feed(&mut self, bytes: &[u8]) -> usize
         requires begun { IsBegun C.protocol C.stands C.phase Q.message self.old }
         ensures begun { IsBegun C.protocol C.stands C.phase Q.message self.new }
@@ -156,8 +211,11 @@ impl<C: Check + Drop, Q: Request + Drop> Asking<C, Q> {
         if !self.is_waiting() {
             return 0;
         }
-        self.turn
-            .feed(&mut self.check, &mut self.places, &mut self.frame, bytes)
+        if bytes.len() < self.lacking {
+            self.gather(bytes);
+            return bytes.len();
+        }
+        self.hear(bytes)
     }
 
     /// The other end closed: where bytes were to come, the question is rejected for that.

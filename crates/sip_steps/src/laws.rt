@@ -1,6 +1,6 @@
 //! What holds of both ends. These functions do nothing: each contract is a fact that holds.
 
-ghost use Rattle.std.specs.Prelude.{◌≡◌, ℕ, List, Some, [], true};
+ghost use Rattle.std.specs.Prelude.{◌≡◌, ℕ, List, Some, [], false, true};
 ghost use Rattle.std.specs.declared.result.Result.{Result as AnyResult};
 ghost use Rattle.sip_ports.specs.declared.port.TalkEvent.{TalkEvent as AnyEvent};
 ghost use Rattle.sip_wire.specs.declared.message.Message.{Message as AnyMessage};
@@ -24,7 +24,8 @@ ghost use Rattle.sip_steps.specs.Posed.{stage_at};
 ghost use Rattle.sip_questions.specs.Questions.{asking};
 ghost use Rattle.sip_steps.specs.declared.question.QuestionAsking.{QuestionAsking as AnyQuestion};
 ghost use Rattle.sip_steps.specs.Questioned as questioned;
-ghost use Rattle.sip_steps.specs.Questioned.{About, IsAskedOf, is_hearing_at};
+ghost use Rattle.sip_steps.specs.Questioned.{About, IsAskedOf, is_due_at, is_hearing_at};
+ghost use Rattle.sip_steps.specs.Questioned.{is_open_at};
 
 use sip_replies::{Check, Request};
 
@@ -71,4 +72,12 @@ pub fn questions_wait()
     ensures { (q : About) (stream : List AnyUpdate) (events : List AnyEvent) (a : AnyQuestion)
         → questioned.IsOf q stream → IsAskedOf q events a → is_hearing_at a ≡ true
         → Waits (asking q.version q.depth stream) q.question q.block events }
+{}
+
+/// While there is no verdict on a question of any kind, bytes are due or are to come, and never
+/// both.
+pub fn questions_go_on()
+    ensures goes_on { (a : AnyQuestion) → is_open_at a ≡ true → is_due_at a ≡ false
+        → is_hearing_at a ≡ true }
+    ensures one { (a : AnyQuestion) → is_hearing_at a ≡ true → is_due_at a ≡ false }
 {}

@@ -100,6 +100,7 @@ impl Posing {
     /// Takes bytes that came, in any pieces, and answers how many. It takes all of them while it
     /// waits, and none behind a verdict, or behind a whole reply where bytes are due: those stay
     /// with the caller.
+    #[inline]
     pub fn feed(&mut self, bytes: &[u8]) -> usize
         requires begun { HasBegun self.old }
         ensures begun { HasBegun self.new }

@@ -1,18 +1,19 @@
 //! A question of any kind, asked without a link.
 
-ghost use Rattle.std.specs.Prelude.{◌≡◌, ◌≤◌, ◌++◌, [], List, false, true, IfOk, IsTrue, OnErr};
-ghost use Rattle.std.specs.Prelude.{OnOk, length, take};
+ghost use Rattle.std.specs.Prelude.{◌≡◌, ◌≤◌, ◌++◌, [], List, false, true, IfOk, IfSome, IsTrue};
+ghost use Rattle.std.specs.Prelude.{OnErr, OnOk, is_none, length, take};
 ghost use Rattle.sip_ports.specs.declared.port.TalkEvent.{TalkEvent as AnyEvent};
 ghost use Rattle.sip_ports.specs.Ports.{HasCause, SendsWhole, ins, outs};
 ghost use Rattle.sip_vector.specs.declared.update.Update.{Update as AnyUpdate};
 ghost use Rattle.sip_wire.specs.Versions.{deepest};
 ghost use Rattle.sip_verifier.specs.QuerySeats.{keeps};
 ghost use Rattle.sip_verifier.specs.Running.{block_of, numbers_of};
+ghost use Rattle.sip_verifier.specs.runs.Askers.{has_failed};
 ghost use Rattle.sip_questions.specs.Promises.{CanPose};
 ghost use Rattle.sip_questions.specs.Sittings.{query_like};
 ghost use Rattle.sip_steps.specs.Questioned.{About, ComesTo, HasBegun, IsAskedOf, IsOf, about};
 ghost use Rattle.sip_steps.specs.Questioned.{due_of, end_of, given_of, is_due_at, is_hearing_at};
-ghost use Rattle.sip_steps.specs.Questioned.{look_given, pairs_of};
+ghost use Rattle.sip_steps.specs.Questioned.{is_open_at, look_given, pairs_of};
 
 use crate::looking::Looking;
 use crate::opening::Opening;
@@ -169,6 +170,7 @@ impl QuestionAsking {
     /// Takes bytes that came, in any pieces, and answers how many. It takes all of them while it
     /// waits, and none behind a verdict, or behind a whole reply where bytes are due: those stay
     /// with the caller.
+    #[inline]
     pub fn feed(&mut self, bytes: &[u8]) -> usize
         requires begun { HasBegun self.old }
         ensures begun { HasBegun self.new }
@@ -201,10 +203,14 @@ impl QuestionAsking {
     /// What came of the question, once all is known: the answer, or the first fault of the replies.
     /// It is what whoever asks over a link has of the talk that these bytes are, about each stream
     /// whose numbers the question is judged by.
+    ///
+    /// It is never a fault of a port: none was there.
     pub fn verdict(&self) -> Option<Result<QuestionGiven, Unanswered>>
-        ensures { (q : About) (stream : List AnyUpdate) (events : List AnyEvent)
+        ensures comes { (q : About) (stream : List AnyUpdate) (events : List AnyEvent)
             → IsOf q stream → IsAskedOf q events self.now
             → ComesTo q stream events (pairs_of self.now) result }
+        ensures open { is_none result ≡ is_open_at self.now }
+        ensures judged { IfSome result (λ said. has_failed said ≡ false) }
     {
         match self {
             QuestionAsking::Posed(posing) => {

@@ -25,6 +25,8 @@ use std::alloc::Global;
 pub struct Serving<H: Helps + Drop> {
     helper: H,
     frame: Frame,
+    // While the talk goes on, how many bytes the frame takes at least before it is looked at.
+    lacking: usize,
     // How many bytes came in whole turns.
     offset: u64,
     status: Option<HelpStatus>,
@@ -47,6 +49,7 @@ impl<H: Helps + Drop> Serving<H> {
         Ok(Serving {
             helper,
             frame,
+            lacking: 0,
             offset: 0,
             status: None,
         })
@@ -84,7 +87,7 @@ impl<H: Helps + Drop> Serving<H> {
     {
         let offset = self.offset;
         match self.frame.judge(place, version) {
-            Taken::Part => {}
+            Taken::Part => self.lacking = self.frame.room(place, version),
             Taken::Whole => {
                 if let Err(status) = answer_turn(
                     &mut self.helper,
@@ -97,6 +100,7 @@ impl<H: Helps + Drop> Serving<H> {
                 }
                 self.offset = offset + self.frame.bytes().len() as u64;
                 self.frame.clear();
+                self.lacking = 0;
             }
             Taken::NoFrame(_) => self.status = Some(HelpStatus::BadFrame { offset }),
         }
@@ -128,12 +132,26 @@ impl<H: Helps + Drop> Serving<H> {
         count
     }
 
-    /// Takes bytes that came, in any pieces, and answers how many: all of them while the talk goes
-    /// on, and none behind its end. Each reply that is owed goes to `out`, and the refusal of a
-    /// message out of turn.
-    ///
-    /// Where the sink fails, or memory is refused to it, that is how the talk ended.
-    pub fn feed<K: Sink>(&mut self, bytes: &[u8], out: &mut K) -> usize
+    // Puts bytes behind those of the frame that are there, too few for a look at it.
+    #[inline]
+    fn gather(&mut self, bytes: &[u8])
+        requires going { self.old.status ≡ None }
+        requires begun { HasBegun H.rules H.turns_left H.is_live self.old }
+        requires few { length bytes.now < self.old.lacking }
+        ensures going { self.new.status ≡ None }
+        ensures served { (first : H) (events : List AnyEvent)
+            → IsServed H.rules H.turns_left H.is_live first events self.old
+            → IsServed H.rules H.turns_left H.is_live first (events ++ ins bytes.now) self.new }
+    {
+        let version = self.helper.version_due();
+        let place = self.helper.place_due();
+        self.frame.put(place, version, bytes);
+        self.lacking -= bytes.len();
+    }
+
+    // Takes bytes that came, and looks at each frame as far as it came.
+    #[inline(never)]
+    fn hear<K: Sink>(&mut self, bytes: &[u8], out: &mut K) -> usize
         requires begun { HasBegun H.rules H.turns_left H.is_live self.old }
         ensures begun { HasBegun H.rules H.turns_left H.is_live self.new }
         ensures most { result ≤ length bytes.now }
@@ -157,6 +175,35 @@ impl<H: Helps + Drop> Serving<H> {
             taken += self.piece(&bytes[taken..], out);
         }
         taken
+    }
+
+    /// Takes bytes that came, in any pieces, and answers how many: all of them while the talk goes
+    /// on, and none behind its end. Each reply that is owed goes to `out`, and the refusal of a
+    /// message out of turn.
+    ///
+    /// Where the sink fails, or memory is refused to it, that is how the talk ended.
+    #[inline]
+    pub fn feed<K: Sink>(&mut self, bytes: &[u8], out: &mut K) -> usize
+        requires begun { HasBegun H.rules H.turns_left H.is_live self.old }
+        ensures begun { HasBegun H.rules H.turns_left H.is_live self.new }
+        ensures most { result ≤ length bytes.now }
+        ensures all { self.new.status ≡ None → result ≡ length bytes.now }
+        ensures none { IsSome self.old.status → result ≡ 0 }
+        ensures passes { (first : H) (events : List AnyEvent)
+            → IsServed H.rules H.turns_left H.is_live first events self.old
+            → Passes (K.talk out.old) (K.talk out.new) (take result bytes.now) events
+            (λ all. IsServed H.rules H.turns_left H.is_live first all self.new) }
+        ensures cause { self.old.status ≡ None → self.new.status ≡ Some HelpStatus.PeerFault
+            → Rose (K.faults out.old) (K.faults out.new) }
+        ensures memory { self.old.status ≡ None → self.new.status ≡ Some HelpStatus.OutOfMemory
+            → Rose (K.wants out.old) (K.wants out.new) }
+        ensures lasts { Lasts K.faults K.wants K.is_sure out.old out.new }
+    {
+        if self.status.is_none() && bytes.len() < self.lacking {
+            self.gather(bytes);
+            return bytes.len();
+        }
+        self.hear(bytes, out)
     }
 
     /// The other end closed, without a farewell where the talk had not ended.

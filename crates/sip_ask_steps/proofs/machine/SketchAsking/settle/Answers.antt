@@ -1,5 +1,9 @@
 -- No answer is possible yet, or this is what came.
-use Rattle.std.proofs.Common.{◌≡◌, Ok, Err, Some, sym, ap, subst, ◌∙◌}
+use Rattle.std.proofs.Common.{◌≡◌, false, Option, Result, Ok, Err, Some, sym, ap, subst, ◌∙◌}
+use Rattle.sip_questions.specs.declared.asker.QuestionGiven.{QuestionGiven}
+use Rattle.sip_verifier.specs.declared.asker.Unanswered.{Unanswered}
+use Rattle.std.specs.Prelude.{IfSome}
+use Rattle.sip_verifier.specs.runs.Askers.{has_failed}
 use Rattle.sip_steps.specs.Questioned.{pairs_of}
 use Rattle.sip_steps.specs.declared.question.QuestionAsking.{QuestionAsking}
 use Rattle.sip_ask_steps.specs.Steps.{At, IsPast, SettlesAt}
@@ -18,7 +22,7 @@ returns-in_default-verdict-clause-done c p events is =
     record {
       kept = is.0;
       at = subst (At p events m) (sym c.in-Asking.is)
-          (settled_open p m.sketch m.number m.left.items events a (pairs_of a) way c.verdict.result (λ q stream said of asked. c.verdict.ensures q stream said of asked) none);
+          (settled_open p m.sketch m.number m.left.items events a (pairs_of a) way c.verdict.result (λ q stream said of asked. c.verdict.ensures.comes q stream said of asked) none c.verdict.ensures.open);
     }
 
 pub returns-in-Ok-clause-done : goal.returns-in-Ok-clause-done
@@ -29,7 +33,7 @@ returns-in-Ok-clause-done c p events is =
     let came : c.verdict.result ≡ Some (Ok c.in-Ok.given) = c.in-Some.is ∙ ap (λ x. Some x) c.in-Ok.is in
     let both : steps.Asking a ≡ steps.Asking c.in-Asking-replace.asking = sym c.in-Asking.is ∙ sym c.replace.ensures.value ∙ c.in-Asking-replace.is in
     let same : a ≡ c.in-Asking-replace.asking = cc in
-    let told = settled_given p m.sketch m.number m.left.items events a (pairs_of a) way c.verdict.result (λ q stream said of asked. c.verdict.ensures q stream said of asked) c.in-Ok.given came in
+    let told = settled_given p m.sketch m.number m.left.items events a (pairs_of a) way c.verdict.result (λ q stream said of asked. c.verdict.ensures.comes q stream said of asked) c.in-Ok.given came in
     rw c.go.ensures (record {
       kept = is.0;
       at = subst (λ (x : QuestionAsking). IsTold p events (pairs_of x) m.number c.in-Ok.given × IsPast p m.sketch m.number m.left.items events) same told;
@@ -41,5 +45,10 @@ returns-in-Err-clause-done c p events is =
     let a = c.in-Asking.asking in
     let way = subst (SettlesAt p events m) c.in-Asking.is is.1 in
     let came : c.verdict.result ≡ Some (Err c.in-Err.why) = c.in-Some.is ∙ ap (λ x. Some x) c.in-Err.is in
-    let ends = settled_stop p m.sketch m.number m.left.items events a (pairs_of a) way c.verdict.result (λ q stream said of asked. c.verdict.ensures q stream said of asked) is.0.plan c.in-Err.why came in
+    let ends = settled_stop p m.sketch m.number m.left.items events a (pairs_of a) way c.verdict.result (λ q stream said of asked. c.verdict.ensures.comes q stream said of asked) is.0.plan c.in-Err.why came in
     rw (c.go-in-Err.ensures, c.stopped_by.ensures) (record { kept = is.0; at = ends })
+
+pub stopped_by-requires : goal.stopped_by-requires
+stopped_by-requires c =
+    let came : c.verdict.result ≡ Some (Err c.in-Err.why) = c.in-Some.is ∙ ap (λ x. Some x) c.in-Err.is in
+    subst (λ (r : Option (Result QuestionGiven Unanswered)). IfSome r (λ said. has_failed said ≡ false)) came c.verdict.ensures.judged

@@ -23,6 +23,7 @@ returns-then-is_waiting-clause-asked g c asked request block events is =
       fed = subst (λ (e : List TalkEvent). IsFed P request block (events ++ e) Stands a.places.items (record a.turn { stage = Rejected a.turn.round Closed }) (frame_bytes c.close.new.frame)) (sym (end_is a.turn.stage hears)) fed;
       at = λ still_open. absurd (no_verdict still_open);
       block_is = λ still_open. absurd (no_verdict still_open);
+      lacks = λ hearing. absurd (no_verdict hearing);
     })
 
 pub returns-then-is_waiting-clause-begun : goal.returns-then-is_waiting-clause-begun

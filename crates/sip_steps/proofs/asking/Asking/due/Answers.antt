@@ -1,8 +1,10 @@
 -- What is due goes out, and then bytes are to come.
-use Rattle.std.proofs.Common.{◌≡◌, ◌++◌, true, List, ℕ, sym, subst, ◌∙◌}
+use Rattle.std.proofs.Common.{◌≡◌, ◌++◌, true, List, ℕ, sym, subst, ◌∙◌, arith}
 use Rattle.sip_ports.specs.Ports.{outs}
 use Rattle.sip_wire.specs.Frames.{frame_bytes}
 use Rattle.sip_replies.specs.declared.turn.Stage.TheVariants.{Hears}
+use Rattle.sip_replies.specs.declared.turn.Turn.{Turn}
+use Rattle.sip_wire.specs.Taking.{room_for}
 use Rattle.sip_replies.specs.Feeding.{IsFed}
 use Rattle.sip_replies.specs.Following.{is_due}
 use Rattle.sip_replies.proofs.Stepping.{IsAt-sent}
@@ -25,6 +27,9 @@ returns-clause-asked g c asked request block events is =
       fed = subst (λ (l : List ℕ). IsFed P request block (events ++ outs l) Stands a.places.items (record turn { stage = Hears }) (frame_bytes a.frame)) (sym (due_is g.Q.Request.message request a is.asks due)) fed;
       at = λ _. IsAt-sent turn (g.C.Check.phase a.check) (is.at still_open);
       block_is = λ _. is.block_is still_open;
+      lacks = λ hearing s stands.
+          let room = subst (λ (t : Turn). c.room-self.result ≡ room_for t.version (P.rules.place s) (frame_bytes a.frame)) c.sent.ensures (c.room-self.ensures asked s stands) in
+          omega (arith, room);
     })
 
 pub returns-clause-begun : goal.returns-clause-begun

@@ -1,45 +1,20 @@
--- Bytes came while they were to come.
-use Rattle.std.proofs.Common.{◌≡◌, ◌++◌, true, List, length, sym, ap, subst, take, ◌∙◌}
-use Rattle.std.proofs.lemmas.List.{with_items_is}
-use Rattle.std.specs.Prelude.{IsTrue}
+-- Bytes came while they were to come: too few for a look at the frame, or not.
+use Rattle.std.proofs.Common.{ℕ, ◌++◌, List, length, sym, subst, take}
+use Rattle.std.proofs.Math.Seq.{take-length}
 use Rattle.sip_ports.specs.Ports.{ins}
-use Rattle.sip_wire.specs.Frames.{frame_bytes}
-use Rattle.sip_wire.specs.Spelling.{fits}
-use Rattle.sip_wire.specs.declared.version.Version.{Version}
-use Rattle.sip_vector.specs.declared.update.Entry.{Entry}
-use Rattle.sip_replies.specs.Feeding.{IsFed}
-use Rattle.sip_replies.specs.Following.{is_hearing}
-use Rattle.sip_replies.proofs.Stepping.{open_hearing}
-use Rattle.sip_steps.proofs.OneQuestion.{stood}
+use Rattle.sip_steps.specs.Asked.{IsAsked}
 use Rattle.sip_steps.proofs.asking.Asking.feed.Goals as goal
 
-pub feed-requires-clause-at : goal.feed-requires-clause-at
-feed-requires-clause-at g c hears = c.requires.begun.4.at (open_hearing c.args.self.now.turn.stage hears)
+pub returns-then-bytes-self-clause-asked : goal.returns-then-bytes-self-clause-asked
+returns-then-bytes-self-clause-asked g c asked request block events is =
+    subst (λ (l : List ℕ). IsAsked (g.C.Check.protocol asked) (g.C.Check.stands asked) g.C.Check.phase g.Q.Request.message request block (events ++ ins l) c.gather.new.self) (sym (take-length c.args.bytes.now)) (c.gather.ensures.asked asked request block events is)
 
-pub feed-requires-clause-stood : goal.feed-requires-clause-stood
-feed-requires-clause-stood g c hears =
+pub returns-then-bytes-self-clause-begun : goal.returns-then-bytes-self-clause-begun
+returns-then-bytes-self-clause-begun g c =
     let b = c.requires.begun in
-    let a = c.args.self.now in
-    let so = stood (g.C.Check.protocol b.0) b.1 b.2 b.3 (λ (s : g.C.Check.State). g.C.Check.stands b.0 s a.check a.places.items) a.places.items a.turn (frame_bytes a.frame) b.4.fed (open_hearing a.turn.stage hears) in
-    (b.0, so.0, subst (λ (l : List Entry). g.C.Check.stands b.0 so.0 a.check l) (sym c.deref_mut.ensures.value) so.1, so.2)
-
-pub returns-clause-asked : goal.returns-clause-asked
-returns-clause-asked g c asked request block events is =
-    let a = c.args.self.now in
-    let hears : is_hearing a.turn.stage ≡ true = sym c.is_waiting.ensures ∙ c.if-not-is_waiting.false in
-    let still_open = open_hearing a.turn.stage hears in
-    let fed = c.feed.ensures.fed asked request block events (is.block_is still_open)
-    (subst (λ (l : List Entry). IsFed (g.C.Check.protocol asked) request block events (λ s. g.C.Check.stands asked s a.check l) l a.turn (frame_bytes a.frame)) (sym c.deref_mut.ensures.value) is.fed) in
-    let same = with_items_is a.places c.feed.new.places (c.feed.ensures.places ∙ ap length c.deref_mut.ensures.value ∙ sym a.places.ok.0) in
-    record {
-      asks = is.asks;
-      spelled = subst (λ (v : Version). IsTrue (fits v request)) (sym is.fed.follows.version ∙ fed.follows.version) is.spelled;
-      fed = subst (λ (l : List Entry). IsFed (g.C.Check.protocol asked) request block (events ++ ins (take c.feed.result c.args.bytes.now)) (λ s. g.C.Check.stands asked s c.feed.new.check l) l c.feed.new.self (frame_bytes c.feed.new.frame)) (sym same) fed;
-      at = λ open_then. c.feed.ensures.at is.at open_then;
-      block_is = λ open_then. c.feed.ensures.block open_then ∙ is.block_is still_open;
-    }
+    (b.0, b.1, b.2, b.3 ++ ins (take (length c.args.bytes.now) c.args.bytes.now), returns-then-bytes-self-clause-asked g c b.0 b.1 b.2 b.3 b.4)
 
 pub returns-clause-begun : goal.returns-clause-begun
 returns-clause-begun g c =
     let b = c.requires.begun in
-    (b.0, b.1, b.2, b.3 ++ ins (take c.feed.result c.args.bytes.now), returns-clause-asked g c b.0 b.1 b.2 b.3 b.4)
+    (b.0, b.1, b.2, b.3 ++ ins (take c.hear.result c.args.bytes.now), c.hear.ensures.asked b.0 b.1 b.2 b.3 b.4)

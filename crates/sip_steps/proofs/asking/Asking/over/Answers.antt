@@ -1,5 +1,5 @@
 -- Nothing was said, and no byte of a frame came.
-use Rattle.std.proofs.Common.{refl, sym, subst}
+use Rattle.std.proofs.Common.{refl, sym, subst, arith}
 use Rattle.std.specs.Prelude.{IsTrue, None, Some, []}
 use Rattle.sip_wire.specs.Frames.{frame_bytes}
 use Rattle.sip_wire.specs.Spelling.{fits}
@@ -17,4 +17,5 @@ returns-clause-asked g c asked same stands =
           (c.begin-turn.ensures.follows asked request (Some []) None c.args.places.items same stands) c.requires.empty;
       at = λ still_open. c.begin-turn.ensures.at;
       block_is = λ still_open. refl;
+      lacks = λ hears s stood. omega arith;
     }

@@ -5,7 +5,7 @@ use Rattle.sip_ports.specs.declared.port.TalkEvent.{TalkEvent}
 use Rattle.sip_ports.specs.Ports.{Lasts, Rose}
 use Rattle.sip_helper.specs.declared.status.HelpStatus.TheVariants.{OutOfMemory, PeerFault}
 use Rattle.sip_steps.specs.Served.{HasBegun, IsServed, Passes}
-use Rattle.sip_steps.proofs.serving.Serving.feed.Given as goal
+use Rattle.sip_steps.proofs.serving.Serving.hear.Given as goal
 
 abbrev pub invariant-loop-taken : goal.invariant-loop-taken
 invariant-loop-taken g l =
