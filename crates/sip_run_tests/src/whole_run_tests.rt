@@ -24,8 +24,8 @@ use sip_vector::{Entry, Query, Side, Update};
 use std::alloc::Global;
 use std::test::Fail;
 
-// The questions of a run over (3, 0, 5, 1): the entries 1 to 2, the entry at 1 or behind it, the sum
-// of the cubes and that of the squares.
+// The questions of a run over (3, 0, 5, 1): the entries 1 to 2, the entry at 1 or behind it, the
+// sum of the cubes and that of the squares.
 const QUESTIONS: [Question; 4] = [
     Question::Query(Query::Sub { lo: 1, hi: 2 }),
     Question::Lookup(Lookup::Succ(1)),
@@ -68,8 +68,8 @@ fn hand_over(serving: &mut Serving<QuestionCore>, said: &[u8], size: usize, out:
     }
 }
 
-// Passes the bytes of one question and of the helper to each other in pieces of a size, for a number
-// of turns that is enough for any question here.
+// Passes the bytes of one question and of the helper to each other in pieces of a size, for a
+// number of turns that is enough for any question here.
 fn exchange(
     alloc: Global,
     asking: &mut QuestionAsking,
