@@ -32,7 +32,7 @@ use crate::gathering::gather;
 use crate::{Seats, Session, Status, Tables, Task, Weights};
 use sip_ports::{Link, Sink, Source};
 use sip_vector::{Depth, Negatives};
-use sip_wire::{MOST_QUERIES, Version};
+use sip_wire::{Frame, MOST_QUERIES, Version};
 use std::alloc::Global;
 use std::mem;
 
@@ -49,8 +49,10 @@ pub fn open_session(
     ensures { MatchResult result (λ session. IsOpened version gathered.old session.value)
         (λ status. IsUnopened version gathered.old status) }
 {
+    // Made first: the seats that are moved below leave less of the stack for it.
+    let frame = Frame::new(alloc);
     match mem::replace(gathered, Err(Status::SeedSpent)) {
-        Ok(seats) => match Session::boxed(alloc, version, seats) {
+        Ok(seats) => match Session::boxed_over(alloc, version, seats, frame) {
             Ok(session) => Ok(session),
             Err(start) => Err(status_of_start(start)),
         },

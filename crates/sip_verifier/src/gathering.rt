@@ -2,11 +2,13 @@
 
 ghost use Rattle.std.specs.Prelude.{◌≡◌, ◌≢◌, ◌⊎◌, ◌<◌, ◌^◌, ◌++◌, ◌∷◌, [], map, ℕ, List, length};
 ghost use Rattle.std.specs.Prelude.{All, Some, Ok, Err, IsSome, IfOk, OnOk, MatchResult, false};
-ghost use Rattle.std.specs.Prelude.{pos};
+ghost use Rattle.std.specs.Prelude.{◌*◌, pos};
+ghost use Rattle.sip_field.specs.Elements.{m61_number};
 ghost use Rattle.sip_ports.specs.Ports.{HasCause, Lasts, Rose, SendsWhole};
 ghost use Rattle.sip_ports.specs.declared.port.TalkEvent.{TalkEvent as AnyEvent};
 ghost use Rattle.sip_wire.specs.Table.{most_rows};
 ghost use Rattle.sip_wire.specs.Versions.{index_width};
+ghost use Rattle.sip_vector.specs.Pieces.{cut};
 ghost use Rattle.sip_vector.specs.declared.query.Query.{Query as AnyQuery};
 ghost use Rattle.sip_vector.specs.declared.update.Side.{Side as AnySide};
 ghost use Rattle.sip_vector.specs.declared.update.Update.{Update as AnyUpdate};
@@ -16,7 +18,7 @@ ghost use Rattle.sip_verifier.specs.inside.Ending.{status_of_stream};
 ghost use Rattle.sip_verifier.specs.Feeding.{due_with};
 ghost use Rattle.sip_verifier.specs.inside.Passing.{CanBeTaken, TakesNext, left};
 ghost use Rattle.sip_verifier.specs.QuerySeats.{HaveRoom};
-ghost use Rattle.sip_verifier.specs.Seats.{AreSeats};
+ghost use Rattle.sip_verifier.specs.Seats.{AreSeats, Seating};
 ghost use Rattle.std.specs.Result.{is_err};
 ghost use Rattle.sip_verifier.specs.Exchanges.{TakesAtMost};
 ghost use Rattle.sip_verifier.specs.GatherClause.{GatherClause};
@@ -29,6 +31,7 @@ ghost use Rattle.sip_verifier.specs.Weights.{AreWeights, none};
 use crate::ending::{on_keep, on_link};
 use crate::seats::challenges_for;
 use crate::{Feed, Port, Seats, Status, Tables, Task, Weights};
+use sip_field::M61;
 use sip_ports::{Link, PortStop, Sink, Source, read_exact_into};
 use sip_stream::{Reader, StreamFault};
 use sip_vector::{Depth, Side, Update};
@@ -45,6 +48,19 @@ pub fn on_stream(read: Result<Option<Update>, StreamFault>) -> Result<Option<Upd
         Err(StreamFault::ReadFault) => Err(Status::ReadFault { port: Port::First }),
         Err(StreamFault::OutOfMemory) => Err(Status::OutOfMemory),
     }
+}
+
+// Leaves the seats with these challenges in `drawn`. The copies of them that this takes are off the
+// stack behind the call.
+#[inline(never)]
+fn seat(task: &Task, challenges: &[M61], drawn: &mut Result<Seats, Status>)
+    requires task { CanBeDone task.now }
+    requires count { length challenges.now ≡ task.now.depth * length task.now.queries.items }
+    ensures { (seats : Seating) × (drawn.new ≡ Ok seats)
+        × AreSeats task.now.depth task.now.queries.items
+        (cut task.now.depth (map m61_number challenges.now)) [] seats }
+{
+    *drawn = Ok(Seats::made(task.depth, &task.queries, challenges));
 }
 
 /// Reads 32 bytes of a seed, draws the challenges of a task from them, and leaves the seats in
@@ -83,7 +99,7 @@ pub fn draw<B: Source>(
     let Ok(challenges) = &challenges else {
         return Err(Status::SeedSpent);
     };
-    *drawn = Ok(Seats::given(task.depth, &task.queries, challenges));
+    seat(task, challenges, drawn);
     Ok(())
 }
 

@@ -103,6 +103,18 @@ impl Seats {
         requires count { length challenges.now ≡ depth * length queries.now }
         ensures { AreSeats depth queries.now (cut depth (map m61_number challenges.now)) [] result }
     {
+        Seats::made(depth, queries, challenges)
+    }
+
+    // The same within its caller, which spares the stack a copy of the seats.
+    #[inline(always)]
+    pub(crate) fn made(depth: Depth, queries: &[Query], challenges: &[M61]) -> Seats
+        requires some { 0 < length queries.now }
+        requires most { length queries.now ≤ most_queries }
+        requires asked { All (CanBeAsked depth) queries.now }
+        requires count { length challenges.now ≡ depth * length queries.now }
+        ensures { AreSeats depth queries.now (cut depth (map m61_number challenges.now)) [] result }
+    {
         let levels = depth.get() as usize;
         let mut seats = ArrayVec::new();
         for (index, query) in queries.iter().enumerate() {

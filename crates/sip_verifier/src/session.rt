@@ -24,6 +24,7 @@ ghost use Rattle.sip_verifier.specs.Sittings.{Starts};
 use crate::Seats;
 use crate::seat::QuerySeat;
 use crate::seat_asking::{ask_by_kind, found_in, verdict_of};
+use sip_field::OutOfMemory;
 use sip_heavy::HeavySpace;
 use sip_ports::{Link, Sink};
 use sip_vector::{Entry, Query};
@@ -156,10 +157,25 @@ impl Session {
         requires { All (λ s. Speaks version seats.depth s.query) seats.seats }
         ensures { Starts version seats result }
     {
+        let frame = Frame::new(alloc);
+        Session::over(alloc, version, seats, frame)
+    }
+
+    // The same over a frame that was made before, where there was memory for one.
+    #[inline(always)]
+    fn over(
+        alloc: Global,
+        version: Version,
+        seats: Seats,
+        frame: Result<Frame, OutOfMemory>,
+    ) -> Result<Session, SessionStart>
+        requires { All (λ s. Speaks version seats.depth s.query) seats.seats }
+        ensures { Starts version seats result }
+    {
         if let Some(query) = first_wide(seats.all()) {
             return Err(SessionStart::TooWide { query });
         }
-        let Ok(frame) = Frame::new(alloc) else {
+        let Ok(frame) = frame else {
             return Err(SessionStart::OutOfMemory);
         };
         let (places, nodes) = rooms(seats.all());
@@ -195,7 +211,24 @@ impl Session {
         ensures { MatchResult result (λ session. Starts version seats (Ok session.value))
             (λ start. Starts version seats (Err start)) }
     {
-        let session = Session::new(alloc, version, seats)?;
+        let frame = Frame::new(alloc);
+        Session::boxed_over(alloc, version, seats, frame)
+    }
+
+    /// [`Session::boxed`] over a frame that was made before, where there was memory for one: to make
+    /// a frame takes 12 KiB of the stack, and to move the seats of a session not much less.
+    #[inline(never)]
+    pub(crate) fn boxed_over(
+        alloc: Global,
+        version: Version,
+        seats: Seats,
+        frame: Result<Frame, OutOfMemory>,
+    ) -> Result<Box<Session>, SessionStart>
+        requires { All (λ s. Speaks version seats.depth s.query) seats.seats }
+        ensures { MatchResult result (λ session. Starts version seats (Ok session.value))
+            (λ start. Starts version seats (Err start)) }
+    {
+        let session = Session::over(alloc, version, seats, frame)?;
         match Box::new(alloc, session) {
             Ok(session) => Ok(session),
             Err(_) => Err(SessionStart::OutOfMemory),

@@ -8,7 +8,7 @@ use Rattle.sip_vector.specs.declared.query.Query.TheVariants.{Sub}
 use Rattle.sip_wire.specs.Versions.{needed}
 use Rattle.sip_verifier.specs.QuerySeats.{StandsFor}
 use Rattle.sip_verifier.proofs.SeatsGiven.{block-size, given-more, given-count, given-asked, given-blocks}
-use Rattle.sip_verifier.proofs.seats.Seats.given.Goals as goal
+use Rattle.sip_verifier.proofs.seats.Seats.made.Goals as goal
 
 pub loop-index-init : goal.loop-index-init
 loop-index-init c = rw c.new-seats.ensures (record { asked = refl; at_blocks = refl; each = refl; stand = All-nil (StandsFor c.args.depth []) })

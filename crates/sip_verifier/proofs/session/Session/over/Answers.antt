@@ -1,7 +1,7 @@
 -- Each seat's query has a code in the version, and the depth is not beyond it.
 use Rattle.std.proofs.Common.{rules, arith}
 use Rattle.sip_verifier.proofs.SeatsHead.{all-coded, all-shallow}
-use Rattle.sip_verifier.proofs.session.Session.new.Goals as goal
+use Rattle.sip_verifier.proofs.session.Session.over.Goals as goal
 
 pub invariant_of-result : goal.invariant_of-result
 invariant_of-result c = (
