@@ -215,8 +215,8 @@ impl Session {
         Session::boxed_over(alloc, version, seats, frame)
     }
 
-    /// [`Session::boxed`] over a frame that was made before, where there was memory for one: to make
-    /// a frame takes 12 KiB of the stack, and to move the seats of a session not much less.
+    /// [`Session::boxed`] over a frame that was made before, where there was memory for one: to
+    /// make a frame takes 12 KiB of the stack, and to move the seats of a session not much less.
     #[inline(never)]
     pub(crate) fn boxed_over(
         alloc: Global,
