@@ -53,6 +53,7 @@ impl Feed {
     ///
     /// It is a call of its own: what its rows are made in is then on the stack no longer than that.
     #[inline(never)]
+    #[inline(always)]
     pub fn new(version: Version) -> Feed
         ensures { result ≡ record { version = version; waiting = []; is_spent = false } }
     {
