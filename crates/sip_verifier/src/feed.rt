@@ -53,8 +53,15 @@ impl Feed {
     ///
     /// It is a call of its own: what its rows are made in is then on the stack no longer than that.
     #[inline(never)]
-    #[inline(always)]
     pub fn new(version: Version) -> Feed
+        ensures { result ≡ record { version = version; waiting = []; is_spent = false } }
+    {
+        Feed::empty(version)
+    }
+
+    // The same within its caller.
+    #[inline(always)]
+    fn empty(version: Version) -> Feed
         ensures { result ≡ record { version = version; waiting = []; is_spent = false } }
     {
         Feed {
@@ -71,7 +78,7 @@ impl Feed {
     pub fn new_in(place: &mut Option<Feed>, version: Version) -> &mut Feed
         ensures { result.now ≡ record { version = version; waiting = []; is_spent = false } }
     {
-        place.insert(Feed::new(version))
+        place.insert(Feed::empty(version))
     }
 
     /// Sends the opening.
