@@ -12,7 +12,8 @@ mod start;
 mod store;
 mod told_ask;
 
-ghost use Rattle.std.specs.Prelude.{◌≡◌, ◌⊎◌, ◌↔◌, ℕ, List, IsTrue, IfSome, IsSome, None};
+ghost use Rattle.std.specs.Prelude.{◌≡◌, ◌≤◌, ◌⊎◌, ◌↔◌, ℕ, List, IsTrue, IfSome, IsSome, None};
+ghost use Rattle.sip_stream.specs.Made.{most_made};
 ghost use Rattle.sip.specs.Endings.{ProgramEnds};
 ghost use Rattle.sip_verifier.specs.declared.status.Status.{Status as AnyStatus};
 ghost use Rattle.sip_words.specs.declared.command.Command.{Command as AnyCommand};
@@ -41,7 +42,7 @@ use sip_ports::{
     FileSink, FileSource, NullSink, Sink, Source, StderrSink, StdoutSink, TwoWayLink, write_whole,
 };
 use sip_stream::MadeSource;
-use sip_vector::Negatives;
+use sip_vector::{Depth, Negatives};
 use sip_verifier::Status;
 use sip_words::{
     Command, LinkOrder, Opening, PlanFiles, PortPlan, Usage, Words, ports, read_words,
@@ -168,17 +169,21 @@ fn stream(
     Box::new(rt.alloc(), ToldSource::new(command, file, lines(rt, tells))).ok()
 }
 
-/// A source over a made stream; `None` where memory is refused.
+/// A source over the made stream of a number; `None` where memory is refused.
 #[inline(never)]
 fn made(
     rt: &HostRuntime,
     command: &Command,
-    made: MadeSource,
+    number: u64,
+    count: u64,
+    depth: Depth,
     tells: bool,
 ) -> Option<Box<Stream<MadeSource>>>
+    requires { count ≤ most_made }
     ensures { IfSome result (λ told. IfSome (stream_teller told.value) (λ teller.
         teller.reading ≡ unread (stream_form command.now))) }
 {
+    let made = MadeSource::new(number, count, depth);
     Box::new(rt.alloc(), ToldSource::new(command, made, lines(rt, tells))).ok()
 }
 
@@ -363,8 +368,7 @@ fn obey_opened(
             count,
             depth,
         } => {
-            let source = MadeSource::new(*number, *count, *depth);
-            let mut first = made(rt, command, source, tells)?;
+            let mut first = made(rt, command, *number, *count, *depth, tells)?;
             obey_over(rt, words, command, &plan, &mut *first, noted, tells)
         }
         Opening::Nothing | Opening::Standard | Opening::Spared | Opening::Path { .. } => {
