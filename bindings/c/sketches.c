@@ -113,6 +113,7 @@ static void statuses(void) {
     same("empty", sip_sketch_save(&s, bytes, 152, &size), SIP_EMPTY);
     same("empty", sip_sketch_update(&s, three, 3, &at), SIP_EMPTY);
     same("empty", sip_sketch_told(&s, &told), SIP_EMPTY);
+    same("empty", sip_sketch_keep_tables(&s), SIP_EMPTY);
     same("empty", sip_sketch_seat(&s, 0, &kind, &is_used), SIP_EMPTY);
     same("nothing written", at + size + kind + is_used, 77 + 88 + 9 + 1);
     same("short seed", sip_sketch_begin(&s, seed, 31, 2, 1, 1, kinds, 2), SIP_BAD_LENGTH);
@@ -184,6 +185,7 @@ static void blocks(void) {
     same("begin", sip_sketch_begin(&each, seed, 32, 4, 1, 1, kinds, 1), SIP_OK);
     same("zero", sip_sketch_update(&all, many, 1300, &at), SIP_ZERO_DELTA);
     same("place", at, 1299);
+    same("tables", sip_sketch_keep_tables(&all), SIP_OK);
     same("all", sip_sketch_update(&all, many, 1299, &at), SIP_OK);
     for (size_t i = 0; i < 1299; i++)
         same("each", sip_sketch_update(&each, many + i, 1, &at), SIP_OK);
@@ -199,6 +201,25 @@ static void *thread(void *unused) {
     (void)unused;
     worked();
     return NULL;
+}
+
+/* A sketch that another thread watches. */
+static void *watch(void *given) {
+    sip_sketch *sketch = given;
+    size_t at = 0;
+    same("watch", sip_sketch_update(sketch, three, 3, &at), SIP_OK);
+    return NULL;
+}
+
+static void moved(void) {
+    const uint8_t kinds[2] = {SIP_ENTRIES, SIP_SUMS_0};
+    sip_sketch sketch = SIP_EMPTY_HANDLE;
+    pthread_t other;
+    same("begin", sip_sketch_begin(&sketch, seed, 32, 2, 1, 1, kinds, 2), SIP_OK);
+    pthread_create(&other, NULL, watch, &sketch);
+    pthread_join(other, NULL);
+    is_three("a sketch of another thread", &sketch);
+    sip_sketch_free(&sketch);
 }
 
 static void texts(void) {
@@ -218,6 +239,7 @@ int main(void) {
     statuses();
     parts();
     blocks();
+    moved();
     for (int i = 0; i < 4; i++) pthread_create(&threads[i], NULL, thread, NULL);
     for (int i = 0; i < 4; i++) pthread_join(threads[i], NULL);
     if (failures) return EXIT_FAILURE;

@@ -1,6 +1,6 @@
 -- What an update by numbers does to a sketch.
 use Rattle.std.specs.Prelude.{◌≡◌, ◌⊎◌, ℕ, true, ◌==◌, List, [], ◌++◌, MatchResult}
-use Rattle.std.specs.Prelude.{MatchOption, Option, Some, None, Err, if◌then◌else◌}
+use Rattle.std.specs.Prelude.{MatchOption, Option, Some, None, Ok, Err, if◌then◌else◌}
 use Rattle.std.specs.List.{AllZip}
 use Rattle.sip_vector.specs.Tallies.{joined, tally}
 use Rattle.sip_vector.specs.declared.update.Update.{Update}
@@ -50,3 +50,9 @@ UpdatesBy form bytes at at' old answer new = MatchOption (width_of form)
     × ¬ AreRecords width bytes)
     ⊎ (AreRecords width bytes × Through (at' ≡ at)
     (OnSketch (Updates (codes_of width bytes) at at')) old answer new))
+
+-- the sketch stays as it was, whether there is memory for its tables or not
+abbrev pub KeepsTables : SketchValues → Answer → SketchValues → Type 0
+KeepsTables s (Ok done) t = t ≡ s
+KeepsTables s (Err refusals.NoMemory) t = t ≡ s
+KeepsTables s _ t = ⊥

@@ -104,3 +104,6 @@ impl Handle {
         };
     }
 }
+
+// What it owns is a box of its own, or nothing.
+unsafe impl Send for Spot {}

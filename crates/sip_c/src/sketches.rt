@@ -8,7 +8,7 @@ ghost use Rattle.sip_c.specs.Loading.{IsLoaded, IsNone};
 ghost use Rattle.sip_c.specs.Saving.{Saves};
 ghost use Rattle.sip_c.specs.Statuses.{Answers};
 ghost use Rattle.sip_c.specs.Telling.{Tells, TellsSeat};
-ghost use Rattle.sip_c.specs.Updating.{Updates, UpdatesBy, width_of};
+ghost use Rattle.sip_c.specs.Updating.{KeepsTables, Updates, UpdatesBy, width_of};
 ghost use Rattle.sip_c.specs.declared.kept.Kept.TheVariants as kept;
 ghost use Rattle.sip_c.specs.declared.refusal.Refusal.TheVariants as refusals;
 
@@ -254,6 +254,41 @@ pub extern "C" fn sip_sketch_update_records(
         sketch.old.spot.held answer sketch.new.spot.held) }
 {
     status_of(update_by_records(alloc, sketch, form, records, at))
+}
+
+// ---- tables
+
+fn keep_tables_kept(alloc: Global, kept: &mut Kept) -> Result<(), Refusal>
+    ensures { OnSketch KeepsTables kept.old result kept.new }
+{
+    match kept {
+        Kept::Sketch(sketch) => match sketch.keep_tables(alloc) {
+            Ok(()) => Ok(()),
+            Err(_) => Err(Refusal::NoMemory),
+        },
+    }
+}
+
+fn keep_tables_in(alloc: Global, handle: &mut Handle) -> Result<(), Refusal>
+    ensures { Through (Unit {0}) (OnSketch KeepsTables) handle.old.spot.held result
+        handle.new.spot.held }
+{
+    let Some(mut kept) = handle.take(alloc) else {
+        return Err(Refusal::Empty);
+    };
+    let answer = keep_tables_kept(alloc, &mut *kept);
+    handle.put(alloc, kept);
+    answer
+}
+
+/// Keeps tables of the challenges of each unused seat, by which updates are added faster from now
+/// on.
+#[unsafe(no_mangle)]
+pub extern "C" fn sip_sketch_keep_tables(alloc: Global, sketch: &mut Handle) -> u32
+    ensures { Answers result (λ answer. Through (Unit {0}) (OnSketch KeepsTables)
+        sketch.old.spot.held answer sketch.new.spot.held) }
+{
+    status_of(keep_tables_in(alloc, sketch))
 }
 
 // ---- absorb
