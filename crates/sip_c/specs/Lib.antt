@@ -1,0 +1,14 @@
+pub mod Absorbing
+pub mod Beginning
+pub mod Codes
+pub mod Handles
+pub mod Loading
+pub mod Owned
+pub mod Records
+pub mod Saving
+pub mod Statuses
+pub mod Telling
+pub mod Texts
+pub mod Updating
+pub mod Weighing
+pub mod inside

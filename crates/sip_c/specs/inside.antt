@@ -1,0 +1,2 @@
+-- What only the contracts of private functions cite: no promise rests on a reading of it.
+pub mod Testing

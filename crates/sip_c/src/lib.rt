@@ -1,0 +1,51 @@
+//! The library for C: sketches behind handles. Its header is `include/sip.h`.
+//!
+//! A handle is a struct that the caller gives: a pointer to a box, and whether there is one. Each
+//! call takes the box out, works on what it has, and puts it back, so that what a handle has moves
+//! by safe code alone; the few lines that turn a box into a pointer and back are those of
+//! `handle.rt` and `parts.rt`, and are proved by hand.
+//!
+//! # What is proved
+//!
+//! - Each call answers the number of a status, and says by its status what it did: what the handle
+//!   has then, and what it wrote ([`sketches`]). Where it refuses, the handle has what it had.
+//! - Each says of the sketch behind the handle what the call of [`sip_sketch`] says that it makes:
+//!   a sketch begins as it was asked for, is loaded of exactly its bytes and saved to them, grows
+//!   by all updates of a call or by none, and adds up with the next part of its stream.
+//! - An empty handle, a freed one and one that is freed twice are statuses, and nothing is freed
+//!   twice.
+//!
+//! What a caller of C owes, nothing checks: that pointers are to what the header says, that no two
+//! arguments share memory, and that one call at a time uses a handle.
+//!
+//! # The definitions to read
+//!
+//! | file of `specs/` | what it defines |
+//! |---|---|
+//! | `Statuses` | the numbers of statuses, and what it is that a call answers one |
+//! | `Handles` | what a call does through a handle: an empty one, a full one, one to begin in |
+//! | `Owned` | what memory a handle owns |
+//! | `Beginning` | how a sketch is asked for by numbers, and what stands against it |
+//! | `Loading`, `Saving` | which bytes are loaded, and how a buffer has those of a sketch |
+//! | `Codes`, `Records` | updates as numbers, and as the records of a file |
+//! | `Weighing` | which updates may come next, and the first that may not |
+//! | `Updating` | what updates do to a sketch: all of them, or none |
+//! | `Absorbing` | what the next part does to a sketch |
+//! | `Telling` | what is told of a sketch and of its seats |
+//! | `Texts` | what statuses say |
+#![tactic(auto)]
+
+mod absorbing;
+mod adding;
+mod beginning;
+mod codes;
+mod handle;
+mod kept;
+mod loading;
+mod parts;
+mod records;
+mod refusal;
+pub mod sketches;
+mod telling;
+mod testing;
+pub mod version;

@@ -1,0 +1,67 @@
+//! Updates as the records of a file.
+
+ghost use Rattle.std.specs.Prelude.{◌≡◌, ◌≤◌, ◌+◌, ◌*◌, drop, length, take};
+ghost use Rattle.sip_stream.specs.Layouts.{record_size};
+ghost use Rattle.sip_c.specs.Records.{code_of, codes_of, record_of};
+
+use crate::codes::{Codes, UpdateCode};
+use byteorder::{BigEndian, ByteOrder};
+
+/// How many bytes the item has in a binary record.
+pub(crate) const NARROW: usize = 4;
+
+/// How many bytes the item has in a wide record.
+pub(crate) const WIDE: usize = 8;
+
+/// How many bytes a record has whose item has so many: the side one more, and the delta eight.
+pub(crate) fn size_of(width: usize) -> usize
+    requires { width ≤ 8 }
+    ensures { result ≡ record_size width }
+{
+    1 + width + 8
+}
+
+// What a record says, whose item has so many bytes.
+fn code_of(width: usize, bytes: &[u8]) -> UpdateCode
+    requires some { 1 ≤ width }
+    requires most { width ≤ 8 }
+    requires whole { length bytes.now ≡ record_size width }
+    ensures { result ≡ code_of width bytes.now }
+{
+    UpdateCode {
+        item: BigEndian::read_uint(&bytes[1..], width),
+        delta: BigEndian::read_u64(&bytes[1 + width..]).cast_signed(),
+        side: bytes[0],
+    }
+}
+
+// The piece of this number of some bytes, each of which has this size.
+fn piece(bytes: &[u8], number: usize, size: usize) -> &[u8]
+    requires { number * size + size ≤ length bytes.now }
+    ensures { result.now ≡ take size (drop (number * size) bytes.now) }
+{
+    &bytes[number * size..][..size]
+}
+
+/// Records that lie one behind the other, whose items have so many bytes.
+#[derive(Drop)]
+pub(crate) struct Records<'a> {
+    pub(crate) width: usize,
+    pub(crate) bytes: &'a [u8],
+    pub(crate) ghost some: { 1 ≤ width },
+    pub(crate) ghost most: { width ≤ 8 },
+}
+
+impl<'a> Codes for Records<'a> {
+    ghost use Rattle.sip_c.specs.Records.{codes_of};
+
+    ghost codes = { λ r. codes_of r.width r.bytes.now };
+
+    fn count(&self) -> usize {
+        self.bytes.len() / size_of(self.width)
+    }
+
+    fn at(&self, place: usize) -> UpdateCode {
+        code_of(self.width, piece(self.bytes, place, size_of(self.width)))
+    }
+}
