@@ -5,5 +5,5 @@ use Rattle.sip_questions.specs.inside.Keeping.{questions_left}
 use Rattle.sip_steps.specs.Served.{HasBegun}
 use Rattle.sip_step_tests.proofs.question_ends_tests.talked.Given as goal
 
-abbrev pub invariant-loop-question : goal.invariant-loop-question
-invariant-loop-question l = HasBegun question_rules questions_left (λ s. not s.helper.spent) l.serving
+abbrev pub invariant-loop-kind : goal.invariant-loop-kind
+invariant-loop-kind l = HasBegun question_rules questions_left (λ s. not s.helper.spent) l.serving
