@@ -27,7 +27,7 @@ fn update(item: u64, delta: i64) -> Update {
     }
 }
 
-pub(crate) const UPDATES: [Update; 3] = [
+const UPDATES: [Update; 3] = [
     Update {
         side: Side::First,
         item: 0,

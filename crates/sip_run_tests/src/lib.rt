@@ -8,5 +8,3 @@ mod facts;
 mod following_tests;
 #[cfg(test)]
 mod passing;
-#[cfg(test)]
-mod whole_run_tests;

@@ -1,7 +1,6 @@
 //! A run that is handed its stream.
-ghost use Rattle.std.specs.Prelude.{◌≡◌, ◌*◌, IfOk, IfSome, length};
+ghost use Rattle.std.specs.Prelude.{IfOk};
 ghost use Rattle.sip_runs.specs.Runs.{HasBegun};
-ghost use Rattle.sip_run_tests.specs.Left.{AreLeft};
 
 use sip_field::{Field, M61};
 use sip_ports::MemorySink;
@@ -34,23 +33,9 @@ pub(crate) fn pass(
 pub(crate) fn begun(alloc: Global) -> Result<Following, Fail>
     ensures { IfOk result HasBegun }
 {
-    begun_of(
-        alloc,
-        &[Question::Query(Query::Sub { lo: 1, hi: 2 })],
-        &[M61::of(2), M61::of(10)],
-    )
-}
-
-// The run of questions at these challenges, before anything was said.
-pub(crate) fn begun_of(
-    alloc: Global,
-    questions: &[Question],
-    challenges: &[M61],
-) -> Result<Following, Fail>
-    requires { length challenges.now ≡ 2 * length questions.now }
-    ensures { IfOk result HasBegun }
-{
-    Ok(Following::given(alloc, Depth::new(2).unwrap(), questions, challenges)?)
+    let questions = [Question::Query(Query::Sub { lo: 1, hi: 2 })];
+    let challenges = [M61::of(2), M61::of(10)];
+    Ok(Following::given(alloc, Depth::new(2).unwrap(), &questions, &challenges)?)
 }
 
 // What a run over a stream in these pieces sends, and what it has to ask behind it.
@@ -59,19 +44,7 @@ pub(crate) fn followed(
     pieces: &[&[Update]],
     out: &mut MemorySink,
 ) -> Result<Option<ToAsk>, Fail> {
-    ended(begun(alloc)?, pieces, out)
-}
-
-// What a run sends to the end of its stream, which comes in these pieces, and what it has to ask
-// behind it.
-pub(crate) fn ended(
-    mut following: Following,
-    pieces: &[&[Update]],
-    out: &mut MemorySink,
-) -> Result<Option<ToAsk>, Fail>
-    requires { HasBegun following }
-    ensures { IfOk result (λ to_ask. IfSome to_ask AreLeft) }
-{
+    let mut following = begun(alloc)?;
     for piece in pieces {
         pass(&mut following, piece, out)?;
     }
