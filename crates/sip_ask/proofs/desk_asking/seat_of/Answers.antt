@@ -5,7 +5,7 @@ use Rattle.sip_sketch.specs.Sketches.{SeatValues}
 use Rattle.sip_ask.specs.Turns.{block_at}
 use Rattle.sip_ask.proofs.Chosen.{block-at}
 use Rattle.sip_ask.proofs.Narrow.{seat-free}
-use Rattle.sip_ask.proofs.steps.seat_of.Goals as goal
+use Rattle.sip_ask.proofs.desk_asking.seat_of.Goals as goal
 
 pub returns-clause-asks : goal.returns-clause-asks
 returns-clause-asks c =

@@ -1,15 +1,15 @@
-// How many bytes are passed on at a time.
+//! How many bytes are passed on at a time.
 
-// The sizes of pieces: one size, or small ones in no order, by a linear congruence.
+/// The sizes of pieces: one size, or small ones in no order, by a linear congruence.
 #[derive(Drop)]
-pub(crate) enum Sizes {
+pub enum Sizes {
     Same(usize),
     Any(u64),
 }
 
 impl Sizes {
-    // The size of the next piece; where they are in no order a number from 0 to 8.
-    pub(crate) fn next(&mut self) -> usize {
+    /// The size of the next piece; where they are in no order a number from 0 to 8.
+    pub fn next(&mut self) -> usize {
         match self {
             Sizes::Same(size) => *size,
             Sizes::Any(state) => {
@@ -22,8 +22,8 @@ impl Sizes {
     }
 }
 
-// So many bytes behind the first few, or all that there are.
-pub(crate) fn piece_of(bytes: &[u8], from: usize, size: usize) -> &[u8] {
+/// So many bytes behind the first few, or all that there are.
+pub fn piece_of(bytes: &[u8], from: usize, size: usize) -> &[u8] {
     let rest = if from < bytes.len() {
         &bytes[from..]
     } else {

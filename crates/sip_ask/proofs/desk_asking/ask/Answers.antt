@@ -2,7 +2,7 @@
 use Rattle.sip_ask.specs.declared.status.AskStatus.TheVariants as statuses
 use Rattle.sip_ask.proofs.HonestAsks.{completed}
 use Rattle.sip_ask.proofs.SketchCounted.{counts-on}
-use Rattle.sip_ask.proofs.steps.ask.Goals as goal
+use Rattle.sip_ask.proofs.desk_asking.ask.Goals as goal
 
 pub returns-in-Ok-clause-completes : goal.returns-in-Ok-clause-completes
 returns-in-Ok-clause-completes g c =

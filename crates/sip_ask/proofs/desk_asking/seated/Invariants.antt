@@ -7,7 +7,7 @@ use Rattle.sip_questions.specs.Sittings.{CanAsk, StandsAt, ask_at, refusal_at}
 use Rattle.sip_sketch.specs.Standing.{Stands}
 use Rattle.sip_ask.specs.Choosing.{weight_told}
 use Rattle.sip_ask.specs.inside.Steps.{asks_at}
-use Rattle.sip_ask.proofs.steps.seated.Given as goal
+use Rattle.sip_ask.proofs.desk_asking.seated.Given as goal
 
 abbrev pub invariant-loop-index : goal.invariant-loop-index
 invariant-loop-index l = record {

@@ -1,8 +1,8 @@
 -- A query is one more of them, and another question is none.
 use Rattle.std.proofs.Common.{arith}
 use Rattle.sip_ask.proofs.Among.{among-other, among-query}
-use Rattle.sip_ask.proofs.steps.version_for.Goals.{in-Query, in_default}
-use Rattle.sip_ask.proofs.steps.version_for.Goals as goal
+use Rattle.sip_ask.proofs.desk_asking.version_for.Goals.{in-Query, in_default}
+use Rattle.sip_ask.proofs.desk_asking.version_for.Goals as goal
 
 pub loop-question-preserved : goal.loop-question-preserved
 loop-question-preserved c = elim c.match-question.branch [

@@ -5,7 +5,7 @@ use Rattle.sip_vector.specs.declared.tally.Tally.{Tally}
 use Rattle.sip_questions.specs.Sittings.{ask_at}
 use Rattle.sip_ask.proofs.Chosen.{asks-few}
 use Rattle.sip_ask.proofs.Narrow.{starts-none}
-use Rattle.sip_ask.proofs.steps.ready.Goals as goal
+use Rattle.sip_ask.proofs.desk_asking.ready.Goals as goal
 
 pub new-requires-clause-most : goal.new-requires-clause-most
 new-requires-clause-most c =

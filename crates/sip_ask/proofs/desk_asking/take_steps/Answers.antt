@@ -9,7 +9,7 @@ use Rattle.sip_ask.proofs.AskEnds.{opened-asks, refusal-risen, refused-asks, tal
 use Rattle.sip_ask.proofs.Refusing.{choice-refuses}
 use Rattle.sip_ask.proofs.Stops.{risen_if}
 use Rattle.sip_ask.proofs.StepsTaken.{asks_as, opens_as, stops_so, stores_as}
-use Rattle.sip_ask.proofs.steps.take_steps.Goals as goal
+use Rattle.sip_ask.proofs.desk_asking.take_steps.Goals as goal
 
 pub returns-in_err-places-clause-asks : goal.returns-in_err-places-clause-asks
 returns-in_err-places-clause-asks g c =

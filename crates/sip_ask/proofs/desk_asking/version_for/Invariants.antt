@@ -1,7 +1,7 @@
 -- The queries among the questions so far, and behind them those among the others.
 use Rattle.std.proofs.Common.{◌≡◌, ◌≤◌, ◌++◌, drop, length}
 use Rattle.sip_questions.specs.Questions.{queries_among}
-use Rattle.sip_ask.proofs.steps.version_for.Given as goal
+use Rattle.sip_ask.proofs.desk_asking.version_for.Given as goal
 
 abbrev pub invariant-loop-question : goal.invariant-loop-question
 invariant-loop-question l = record {

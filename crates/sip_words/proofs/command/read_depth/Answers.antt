@@ -3,7 +3,7 @@ use Rattle.std.proofs.lemmas.Fmt.{decimal_injective}
 use Rattle.sip_words.specs.Shapes.{IsDepth}
 use Rattle.sip_vector.specs.Limits.{most_depth}
 use Rattle.sip_words.proofs.Getting.{got}
-use Rattle.sip_words.proofs.command.depth_at.Goals as goal
+use Rattle.sip_words.proofs.command.read_depth.Goals as goal
 
 -- another number is not the word's
 other : (levels : ℕ) (word : List ℕ) → levels < 2 ^ 64 → word ≡ decimal levels → (d : ℕ) → IsDepth d word → levels ≡ d

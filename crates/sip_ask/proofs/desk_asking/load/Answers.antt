@@ -3,7 +3,7 @@ use Rattle.std.proofs.Common.{◌≡◌, ℕ, List, Some, Err, subst}
 use Rattle.sip_sketch.specs.Fields.{read}
 use Rattle.sip_sketch.specs.Reading.{IsFaultOf}
 use Rattle.sip_sketch.specs.Sketches.{sketch_file}
-use Rattle.sip_ask.proofs.steps.load.Goals as goal
+use Rattle.sip_ask.proofs.desk_asking.load.Goals as goal
 
 pub returns-in-Err-Bad-clause-loads : goal.returns-in-Err-Bad-clause-loads
 returns-in-Err-Bad-clause-loads g c =

@@ -11,8 +11,8 @@ use Rattle.sip_ask.proofs.Chosen.{chosen-is}
 use Rattle.sip_ask.proofs.Narrow.{seats-refuse}
 use Rattle.sip_ask.proofs.SeatSteps.{asked-more, asked-same, asked-whole, in-asked, place-fits, place-serves, place-tested}
 use Rattle.sip_ask.proofs.Served.{fit-pose}
-use Rattle.sip_ask.proofs.steps.seated.Goals.{in-Some+in_ok-push, in_default}
-use Rattle.sip_ask.proofs.steps.seated.Goals as goal
+use Rattle.sip_ask.proofs.desk_asking.seated.Goals.{in-Some+in_ok-push, in_default}
+use Rattle.sip_ask.proofs.desk_asking.seated.Goals as goal
 
 pub bounds-questions-index : goal.bounds-questions-index
 bounds-questions-index c =
