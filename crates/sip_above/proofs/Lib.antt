@@ -1,0 +1,2 @@
+pub mod LargeCounts
+mod LargeAsked

@@ -1,0 +1,3 @@
+pub mod Questions
+pub mod Manner
+pub mod inside
