@@ -10,7 +10,7 @@ use Rattle.sip_vector.specs.declared.query.Query.TheVariants.{Sub, Range, F2, In
 use Rattle.sip_vector.specs.declared.update.Side.{Side}
 use Rattle.sip_vector.specs.declared.update.Side.TheVariants.{First, Second}
 use Rattle.sip_vector.specs.declared.update.Update.{Update}
-use Rattle.sip_vector.specs.Streams.{of_side, vector}
+use Rattle.sip_vector.specs.Streams.{of_side}
 use Rattle.sip_verifier.specs.QuerySeats.{HasRoom, HaveRoom, RunningNumbers, Seated, StandsFor, aug_root_is, split_root_is, can_be_asked, concerns, is_heavy_of, is_seat, keeps}
 use Rattle.sip_verifier.specs.Seats.{AreSeats, Seating}
 use Rattle.sip_verifier.specs.inside.Raising.{AreLeft}
