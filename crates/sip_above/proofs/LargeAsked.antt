@@ -1,12 +1,12 @@
 -- What the general talk did for large entries is what the manner of asking them says.
-use Rattle.std.proofs.Common.{◌≡◌, inl, inr, ℕ, ◌^◌, None, Option, Result, Ok, Err, List, ℤ, pos, ◌++◌, length, map, min, take, refl, sym, ap, subst, ◌∙◌, arith}
+use Rattle.std.proofs.Common.{◌≡◌, inl, inr, ℕ, None, Option, Result, Ok, Err, List, ◌++◌, length, take, sym, ap, subst, ◌∙◌}
 use Rattle.sip_field.specs.Moduli.{m61_modulus}
 use Rattle.sip_ports.specs.declared.port.TalkEvent.{TalkEvent}
 use Rattle.sip_ports.specs.Ports.{GoesOn, Rose}
 use Rattle.sip_tree.specs.StandsFor.{SplitRootStandsFor}
 use Rattle.sip_vector.specs.declared.update.Entry.{Entry}
 use Rattle.sip_vector.specs.declared.update.Update.{Update}
-use Rattle.sip_vector.specs.Answers.{Answer, pairs, number}
+use Rattle.sip_vector.specs.Answers.{Answer, pairs}
 use Rattle.sip_vector.specs.Splits.{splitroot}
 use Rattle.sip_vector.specs.Streams.{int_sum}
 use Rattle.sip_vector.specs.Trees.{Counted}

@@ -1,7 +1,7 @@
 -- How large entries of any stream are asked and judged, what is promised of a helper that lies, and
 -- what an honest one does.
-use Rattle.std.specs.Prelude.{◌≡◌, ◌≤◌, ℕ, ◌*◌, ◌/◌, ◌-◌, ◌^◌, Bool, true, false, ℤ, pos, List, [], ◌∷◌}
-use Rattle.std.specs.Prelude.{map, flat_map, nat_le, Option, Some, None, if◌then◌else◌}
+use Rattle.std.specs.Prelude.{◌≡◌, ◌≤◌, ℕ, ◌*◌, ◌/◌, ◌-◌, ◌^◌, Bool, ℤ, pos}
+use Rattle.std.specs.Prelude.{List, [], ◌∷◌, map, flat_map, nat_le, Option, Some, None, if◌then◌else◌}
 use Rattle.sip_field.specs.Moduli.{m61_modulus}
 use Rattle.sip_vector.specs.declared.update.Entry.{Entry}
 use Rattle.sip_vector.specs.declared.update.Update.{Update}

@@ -20,7 +20,7 @@
 //! | Module | Definitions |
 //! |---|---|
 //! | `Questions` | the query that asks for large entries |
-//! | `Manner` | how they are asked and judged, what is promised of a helper that lies, and what an honest one does |
+//! | `Manner` | how they are asked and judged, what is promised, and what an honest helper does |
 #![tactic(auto)]
 
 mod asking;

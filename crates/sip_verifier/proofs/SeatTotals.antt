@@ -66,7 +66,7 @@ mark_counts p [] (w ∷ weights) long = absurd (omega (arith, long))
 mark_counts p (a ∷ values) [] long = absurd (omega (arith, long))
 mark_counts p (a ∷ values) (w ∷ weights) long = ap (λ z. w +ℤ z) (mark_counts p values weights (omega (arith, long)))
 
-split_total : (p : ℕ) (block : List ℕ) (hash weight : ℕ) (values weights : List ℤ) → SplitRootStandsFor p block hash weight values weights → pos weight ≡ int_sum weights
+pub split_total : (p : ℕ) (block : List ℕ) (hash weight : ℕ) (values weights : List ℤ) → SplitRootStandsFor p block hash weight values weights → pos weight ≡ int_sum weights
 split_total p block hash weight values weights stands =
     let same = stands.whole ∙ sym stands.weighed in
     let long : length (mark_leaves p values weights) ≡ 2 ^ length block = long_marks p values weights same ∙ stands.weighed in
