@@ -4,8 +4,8 @@
 //! and Yi (PVLDB 5(1)); the hash and the tests at each level are this project's own.
 //!
 //! Entries below 0 would hide others in such a sum. Where there may be some, a leaf is a mark: an
-//! entry and a weight, which is at least its size, and nodes have the sum of the weights below them.
-//! The check and the proof of its count are the same, over what a leaf has.
+//! entry and a weight, which is at least its size, and nodes have the sum of the weights below
+//! them. The check and the proof of its count are the same, over what a leaf has.
 //!
 //! The helper shows, from the leaves up, both children of each node whose count reaches the
 //! threshold. Known nodes are those that follow from the level below by its challenge; those that a
@@ -77,6 +77,7 @@ mod space;
 pub use check::HeavyCheck;
 pub use form::LeafForm;
 pub use heavy_asking::HeavyAsking;
+pub use level::mark_of;
 pub use space::HeavySpace;
 
 // The honest side.

@@ -10,7 +10,7 @@ ghost use Rattle.sip_heavy.specs.Honest.{begun, learnt, its_nodes, node_of};
 ghost use Rattle.sip_heavy.specs.HonestMarks.{begun_above};
 
 use crate::form::LeafForm;
-use crate::spots::{first_shown, fold_spots, leaves_of, marks_of};
+use crate::spots::{first_shown, fold_spots, leaves_of, marks_of, place_of};
 use sip_field::{Field, OutOfMemory};
 use sip_vector::Vector;
 use sip_wire::Node;
@@ -141,9 +141,11 @@ impl<F: Field> HeavyProver<F> {
     /// The first node that is shown of the level, at `from` or after it; `None` where there is
     /// none, as at the root.
     ///
-    /// A search of O(log m), and a walk over the nodes up to the one that is found, without memory.
-    /// So a level costs O(m), and a search for each node that is shown.
-    pub fn next_node(&self, from: u64) -> Option<HeavyNode<F>>
+    /// A walk over the nodes up to the one that is found, without memory, from a place that `near`
+    /// tells or else a search of O(log m) finds. `near` may be any number, and tells the place for
+    /// the index behind the node then: whoever goes from node to node begins at 0, and a level
+    /// costs O(m).
+    pub fn next_node(&self, near: &mut usize, from: u64) -> Option<HeavyNode<F>>
         ensures first { option_map (node_of F.number) result
             ≡ slice_get (filter (λ x. nat_le from x.index) (its_nodes self.now)) 0 }
         ensures within { IfSome result (λ node. node.index < length self.now.level) }
@@ -151,8 +153,8 @@ impl<F: Field> HeavyProver<F> {
         if self.levels_left == 0 {
             return None;
         }
-        let start = self.spots.partition_point(|spot| spot.index / 2 < from / 2);
-        let node = first_shown(&self.spots, start, self.at_least, self.is_leaf, from)?;
+        let start = place_of(&self.spots, *near, from);
+        let node = first_shown(&self.spots, start, self.at_least, self.is_leaf, from, near)?;
         Some(HeavyNode {
             index: node.index,
             hash: F::of(node.hash),

@@ -1,8 +1,9 @@
 //! A level kept by its nodes that are not zero.
 
 ghost use Rattle.std.specs.Prelude.{◌≡◌, ℕ, ◌/◌, ◌^◌, ◌<◌, ◌≤◌, pos, ◌≤ℤ◌, All, length, map, drop};
-ghost use Rattle.std.specs.Prelude.{◌∷◌, ◌++◌, slice_get, IfOk};
+ghost use Rattle.std.specs.Prelude.{◌∷◌, ◌++◌, slice_get, nat_lt, true, false, IfOk, IsTrue};
 ghost use Rattle.std.specs.Prelude.{Bool as AnyBool};
+ghost use Rattle.std.specs.List.Sorted.{IsPartitionPoint};
 ghost use Rattle.sip_field.specs.Residue.{product_mod};
 ghost use Rattle.sip_vector.specs.Vectors.{nonzero};
 ghost use Rattle.sip_heavy.specs.AcceptsHeavy as heavy;
@@ -320,13 +321,46 @@ fn pass_light(spots: &[Node], from: usize, at_least: u64) -> usize
     place
 }
 
-// The first node that is shown of those at `start` and behind it, at an index or after it.
+// Whether this place parts the pairs before that of an index from the others.
+fn parts_pairs(spots: &[Node], place: usize, from: u64) -> bool
+    requires rises { (least n : ℕ) × Rises least n spots.now }
+    ensures within { IsTrue result → place ≤ length spots.now }
+    ensures parts { IsTrue result
+        → IsPartitionPoint (λ x. nat_lt (x.index / 2) (from / 2) ≡ true)
+        (λ x. nat_lt (x.index / 2) (from / 2) ≡ false) spots.now place }
+{
+    if place > spots.len() {
+        return false;
+    }
+    if place > 0 && spots[place - 1].index / 2 >= from / 2 {
+        return false;
+    }
+    place == spots.len() || spots[place].index / 2 >= from / 2
+}
+
+// The place that parts the pairs before that of an index from the others: `near` where it does, and
+// else by a search of O(log m).
+pub(crate) fn place_of(spots: &[Node], near: usize, from: u64) -> usize
+    requires rises { (least n : ℕ) × Rises least n spots.now }
+    ensures within { result ≤ length spots.now }
+    ensures parts { IsPartitionPoint (λ x. nat_lt (x.index / 2) (from / 2) ≡ true)
+        (λ x. nat_lt (x.index / 2) (from / 2) ≡ false) spots.now result }
+{
+    if parts_pairs(spots, near, from) {
+        return near;
+    }
+    spots.partition_point(|spot| spot.index / 2 < from / 2)
+}
+
+// The first node that is shown of those at `start` and behind it, at an index or after it. `near`
+// then tells the place that parts the pairs before that of the index behind the node.
 pub(crate) fn first_shown(
     spots: &[Node],
     start: usize,
     at_least: u64,
     is_leaf: bool,
     from: u64,
+    near: &mut usize,
 ) -> Option<Node>
     requires small { All (λ x. x.index < 2 ^ 48) spots.now }
     requires light { All (λ x. x.count < 2 ^ 61) spots.now }
@@ -339,6 +373,11 @@ pub(crate) fn first_shown(
     while read < spots.len() {
         let pair = first_pair(&spots[read..]);
         if let Some(node) = shown_of(pair, at_least, is_leaf, from) {
+            *near = if node.index % 2 == 0 {
+                read
+            } else {
+                read + pair.spots
+            };
             return Some(node);
         }
         read = pass_light(spots, read + pair.spots, at_least);

@@ -71,6 +71,8 @@ pub mod turn_laws;
 mod vectors;
 
 pub use helper::HelperCore;
+pub use hitters::put_level_end;
+pub use nodes::put_level;
 pub use refusal::{WANT_OF_MEMORY, put_refusal};
 pub use serving::serve;
 pub use status::HelpStatus;
