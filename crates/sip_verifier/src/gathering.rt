@@ -165,6 +165,7 @@ pub fn follow<A: Source, K: Sink>(
 }
 
 // Leaves why nothing was gathered in place of the seats. There are no weights then.
+#[inline(never)]
 fn stopped(gathered: &mut Result<Seats, Status>, status: Status) -> Weights
     ensures place { gathered.new ≡ Err status }
     ensures weights { result ≡ none }

@@ -73,8 +73,12 @@ impl Seats {
         ensures { AreDrawn depth queries.now seed.now result }
     {
         let count = depth.get() as usize * queries.len();
-        let challenges = draw_challenges::<MOST_CHALLENGES>(*seed, count)?;
-        Ok(Seats::given(depth, queries, &challenges))
+        // The challenges are too large to be moved about.
+        let drawn = draw_challenges::<MOST_CHALLENGES>(*seed, count);
+        match &drawn {
+            Ok(challenges) => Ok(Seats::given(depth, queries, challenges)),
+            Err(_) => Err(SeedSpent),
+        }
     }
 
     /// The seats with these challenges, `depth` for each query in order, before any update.

@@ -44,8 +44,8 @@ by_query-requires-clause-counted g c =
     (g.B.Source.faults c.args.second.now) (g.B.Source.faults c.gather_all.new.second)
     c.gather_all.new.gathered c.in_ok-gather_all.ensures.fault)
 
-pub returns-in-Err-clause-begins : goal.returns-in-Err-clause-begins
-returns-in-Err-clause-begins g c = λ bytes seed all told.
+pub returns-clause-begins : goal.returns-clause-begins
+returns-clause-begins g c = λ bytes seed all told.
     let listed =
     stops_listed (g.A.Source.faults c.args.first.now) (g.A.Source.faults c.gather_all.new.first)
     (g.B.Source.faults c.args.second.now) (g.B.Source.faults c.gather_all.new.second)
@@ -55,8 +55,8 @@ returns-in-Err-clause-begins g c = λ bytes seed all told.
     c.by_query.result c.gather_all.ensures.count c.by_query.ensures
     c.in-Err.ensures (c.in_ok-gather_all.ensures.gathers bytes seed all told) listed
 
-pub returns-in-Err-clause-fault : goal.returns-in-Err-clause-fault
-returns-in-Err-clause-fault g c =
+pub returns-clause-fault : goal.returns-clause-fault
+returns-clause-fault g c =
     let before =
     counts (g.A.Source.faults c.args.first.now) (g.B.Source.faults c.args.second.now) 0 0 0 in
     let now =
@@ -78,8 +78,8 @@ returns-in-Ok-clause-negatives g c = λ bytes seed all told.
     let (seats, is, starts) = c.in-Ok.ensures in
     rw is at c.in_ok-gather_all.ensures.negatives c.requires.some bytes seed all told
 
-pub returns-in-Err-clause-negatives : goal.returns-in-Err-clause-negatives
-returns-in-Err-clause-negatives g c = λ bytes seed all told.
+pub returns-clause-negatives : goal.returns-clause-negatives
+returns-clause-negatives g c = λ bytes seed all told.
     let listed =
     stops_listed (g.A.Source.faults c.args.first.now) (g.A.Source.faults c.gather_all.new.first)
     (g.B.Source.faults c.args.second.now) (g.B.Source.faults c.gather_all.new.second)

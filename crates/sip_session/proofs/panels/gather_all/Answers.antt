@@ -26,7 +26,7 @@ returns-in_err-weights-clause-gathers g c = λ bytes seed all told.
     let p = err_from_is_err_and c.from_residual-in_err-weights.result
     c.from_residual-in_err-weights.ensures.1 in
     rw (p.1, p.2) (follow_stops c.args.wide.now bytes seed (g.A.Source.left c.follow_all.new.first)
-    c.keep_tables.new.seats has _ _ c.follow_all.new.seats c.in_err-weights.field-0.0
+    c.keep_tables.new.self has _ _ c.follow_all.new.seats c.in_err-weights.field-0.0
     (rw c.in_err-weights.was at c.follow_all.ensures.hears bytes
     (blocks c.args.wide.now has.challenges) all has.stand))
 
@@ -41,7 +41,7 @@ pub returns-in_ok-weights-clause-gathers : goal.returns-in_ok-weights-clause-gat
 returns-in_ok-weights-clause-gathers g c = λ bytes seed all told.
     let has = subst (HasDrawn c.args.wide.now seed) (sym c.keep_tables.ensures)
     (rw c.in-Ok.is at c.in_ok-draw.ensures.draws seed told) in
-    all_heard c.args.wide.now bytes seed _ c.keep_tables.new.seats has _ _ _
+    all_heard c.args.wide.now bytes seed _ c.keep_tables.new.self has _ _ _
     (rw c.in_ok-weights.was at c.follow_all.ensures.hears bytes
     (blocks c.args.wide.now has.challenges) all has.stand)
 
