@@ -14,6 +14,7 @@ class Settings:
         case = os.environ.get("CASE")
         self.numbers = range(self.cases) if case is None else [int(case)]
         self.keep = os.path.abspath(os.environ["KEEP"]) if os.environ.get("KEEP") else None
+        self.machines = os.environ.get("MACHINES") and os.path.abspath(os.environ["MACHINES"])
         jobs = os.environ.get("JOBS", str(len(os.sched_getaffinity(0))))
         if not jobs.isdecimal() or int(jobs) < 1:
             raise SystemExit(page)

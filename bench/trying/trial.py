@@ -21,6 +21,12 @@ from .program import FROM, TO, Program
 # Of so many cases, each kind of outcome that is wanted has to come.
 ENOUGH = 20_000
 
+# The commands that sip_pieces does too, and how they end where it is compared.
+BY_MACHINES = (b"verify", b"lookup", b"moments", b"help")
+SAID_BY_MACHINES = (
+    "Accepted", "Rejected", "BadStream", "SeedSpent", "TooWide", "TooHigh", "Served", "BadFrame", "PeerClosed",
+)  # fmt: skip
+
 
 class Group(NamedTuple):
     """`make` makes a case of its chances, and one in `fifos` goes over two FIFOs, or has its stream
@@ -86,6 +92,11 @@ class Trial:
 
     def work(self, numbers, folder, says):
         self.program = Program(self.path, folder)
+        self.machines = None
+        if self.settings.machines:
+            own = os.path.join(folder, "machines")
+            os.mkdir(own)
+            self.machines = Program(self.settings.machines, own)
         for number in numbers:
             says.send(self.differences(number))
 
@@ -119,7 +130,23 @@ class Trial:
                 outcome = outcome._replace(to=files.get(to.decode(errors="replace")))
         lost = [name for name in read_by(case.words) if name in ran.changed]
         found = [*compared(outcome, ran), *advised(hints, ran), *self.group.also(case, ran.report)]
+        found += self.by_machines(chance, case, files, outcome)
         return outcome, found + [f"it changes {name}, which it reads" for name in lost]
+
+    def by_machines(self, chance, case, files, outcome):
+        """Compares the same by the machines that wait in no call, in pieces of sizes in no order. What
+        a rejection is stands in its line on standard error alone."""
+        if not self.machines or case.words[:1] not in ([verb] for verb in BY_MACHINES):
+            return []
+        if outcome.status not in SAID_BY_MACHINES:
+            return []
+        lines = outcome.report.splitlines(keepends=True)
+        if outcome.status == "Rejected":
+            lines[-1:] = [b"rejected\n"]
+        number = str(chance.randrange(2**32)).encode()
+        ran = self.machines.run([number, *case.words], files, to_of(case.words))
+        wanted = outcome._replace(report=b"".join(lines))
+        return [f"by machines: {line}" for line in compared(wanted, ran)]
 
     def with_files(self, chance, case, files, over_fifos):
         """Compares a run and all files behind it, and what it stored before its end."""
