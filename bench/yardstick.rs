@@ -90,29 +90,13 @@ fn updates(depth: u32) {
     line("updates", depth, BLOCK as u64, Duration::ZERO, checksum);
 }
 
-/// Blocks of updates of a running number. The least time of a block is taken.
-fn running(name: &str, depth: u32, update_all: impl Fn(&Seat, u64, &[Update]) -> u64) {
-    let seat = seat(depth);
-    let mut generator = Generator(STREAM_SEED);
-    let mut block = [Update::default(); BLOCK];
-    let mut value = 0;
-    let mut time = Duration::MAX;
-    for _ in 0..BLOCKS {
-        block.fill_with(|| generator.update(depth));
-        let (spent, sum) = least(1, || update_all(&seat, value, &block));
-        value = sum;
-        time = time.min(spent);
-    }
-    line(name, depth, BLOCK as u64, time, value);
-}
-
 /// Blocks of updates, each for so many numbers. The least time of a block is taken.
-fn many<M: Many>(name: &str, depth: u32, count: u64) {
+fn fed<M: Many>(name: &str, depth: u32, count: u64) {
     let mut numbers = M::of((0..count).map(|number| seat_of(number, depth)).collect());
     let mut generator = Generator(STREAM_SEED);
     let mut block = [Update::default(); BLOCK];
     let mut time = Duration::MAX;
-    for _ in 0..BLOCKS_OF_MANY {
+    for _ in 0..if count == 1 { BLOCKS } else { BLOCKS_OF_MANY } {
         block.fill_with(|| generator.update(depth));
         let (spent, ()) = least(1, || numbers.update_all(&block));
         time = time.min(spent);
@@ -258,15 +242,15 @@ fn part<D: Design>(name: &str, depth: u32) {
         "recordbytes" if depth > 32 => bytes(name, depth, made_records::<WIDE>(depth)),
         "recordbytes" => bytes(name, depth, made_records::<NARROW>(depth)),
         "textbytes" => bytes(name, depth, made_lines(depth)),
-        "root" => running(name, depth, D::root),
-        "point" => running(name, depth, D::point),
-        "augroot" => running(name, depth, D::augroot),
-        "root16" => many::<D::Roots>(name, depth, 16),
-        "root64" => many::<D::Roots>(name, depth, 64),
-        "point16" => many::<D::Points>(name, depth, 16),
-        "point64" => many::<D::Points>(name, depth, 64),
-        "augroot16" => many::<D::AugRoots>(name, depth, 16),
-        "augroot64" => many::<D::AugRoots>(name, depth, 64),
+        "root" => fed::<D::Roots>(name, depth, 1),
+        "point" => fed::<D::Points>(name, depth, 1),
+        "augroot" => fed::<D::AugRoots>(name, depth, 1),
+        "root16" => fed::<D::Roots>(name, depth, 16),
+        "root64" => fed::<D::Roots>(name, depth, 64),
+        "point16" => fed::<D::Points>(name, depth, 16),
+        "point64" => fed::<D::Points>(name, depth, 64),
+        "augroot16" => fed::<D::AugRoots>(name, depth, 16),
+        "augroot64" => fed::<D::AugRoots>(name, depth, 64),
         "records" if depth > 32 => records::<WIDE>(depth),
         "records" => records::<NARROW>(depth),
         "text" => text::<D>(depth),

@@ -4,7 +4,9 @@ import filecmp
 import os
 
 from harness.children import run
-from harness.settings import reachable, stream_word
+from harness.hitters import MANY
+from harness.nodes import Answer
+from harness.settings import stream_word
 from harness.tables import Table
 
 
@@ -13,17 +15,29 @@ HEAVY = ["heavy:0:35"] * 16
 HEAVY_DEPTH = 20
 HEAVY_RECORDS = 1_000_000
 
+# The depth of a stream of many heavy entries that lie evenly, about which this many queries have replies of some 100 MB.
+WIDE_DEPTH, WIDE_QUERIES = 48, 2
+
 
 def measure(programs, settings, work):
     programs = programs.talks()
-    return measure_streams(programs, settings, work) + measure_transcript(programs, settings, work)
+    return measure_streams(programs, settings, work) + measure_transcripts(programs, settings, work)
 
 
-def measure_transcript(programs, settings, work):
+def measure_transcripts(programs, settings, work):
+    wide = Answer(MANY, WIDE_DEPTH)
+    stream = os.path.join(work, "stream")
+    wide.write(stream)
+    narrow = measure_transcript(programs, settings, work, f"made:7:{HEAVY_RECORDS}", HEAVY_DEPTH, HEAVY)
+    return narrow + measure_transcript(programs, settings, work, stream_word(stream, WIDE_DEPTH), WIDE_DEPTH, [wide.asked()] * WIDE_QUERIES)
+
+
+def measure_transcript(programs, settings, work, stream, depth, queries):
+    """Converts the transcript of these queries about a stream."""
     seed, record, wanted = (os.path.join(work, name) for name in ("seed", "record", "converted"))
     with open(seed, "wb") as file:
         file.write(bytes(range(32)))
-    run([*programs["sip"], "play", f"made:7:{HEAVY_RECORDS}", seed, "honest", record, HEAVY_DEPTH, *HEAVY])
+    run([*programs["sip"], "play", stream, seed, "honest", record, depth, *queries])
     run([*programs["sip"], "convert", record], wanted)
     size = os.path.getsize(record)
     table = Table(f"copies of a transcript of {size} bytes", "ns of CPU a byte", programs)
@@ -49,10 +63,10 @@ def measure_streams(programs, settings, work):
             "lines text:": (["lines", f"text:{text}", depth], text),
         }
         for name, (words, wanted) in copies.items():
-            for program, begins in reachable(programs, depth):
+            for program, begins in programs.items():
                 compare(program, [*begins, *words], wanted, work)
             for _ in range(settings.rounds):
-                for program, begins in reachable(programs, depth):
+                for program, begins in programs.items():
                     table.saw(f"{name} {depth}", program, run([*begins, *words]).cpu * 1e9 / records)
     table.show()
     return table.above

@@ -2,7 +2,6 @@
 
 from bisect import bisect_left, bisect_right
 
-from harness.settings import reachable
 from harness.streams import SIDES, distinct, put
 from harness.tables import Table
 from harness.talks import ITEMS, Talks
@@ -20,7 +19,6 @@ class Lookups(Talks):
 
 def measure(programs, settings, work):
     programs = programs.talks()
-    programs.pop("old", None)
     records = settings.records[0]
     table = Table(f"lookups in {records} records", "ms of CPU of an end, and the most memory that it has, in KiB", programs)
     above = []
@@ -28,11 +26,11 @@ def measure(programs, settings, work):
         questions = questions_of(min(records, 1 << depth), depth, work)
         for _ in range(settings.rounds):
             for talks, word, answer in questions:
-                for name, program in reachable(programs, depth):
+                for name, program in programs.items():
                     for end, child in zip((talks.HELPING, talks.ASKING), talks.answered(name, program, word, answer)):
                         table.saw(line_name(end, depth, word), name, child.cpu * 1e3)
         for talks, word, answer in questions:
-            for name, program in reachable(programs, depth):
+            for name, program in programs.items():
                 ends = talks.answered(name, program, word, answer, traced=True)
                 for end, child in zip((talks.HELPING, talks.ASKING), ends):
                     table.note(line_name(end, depth, word), f"{name} KiB", child.peak)

@@ -1,6 +1,5 @@
 """Talks of both ends about one frequency moment each."""
 
-from harness.settings import reachable
 from harness.streams import SIDES, put, scattered
 from harness.tables import Table
 from harness.talks import Talks
@@ -20,7 +19,6 @@ class Moments(Talks):
 
 def measure(programs, settings, work):
     programs = programs.talks()
-    programs.pop("old", None)
     records = settings.records[0]
     table = Table(f"moments of {records} records", "ms of CPU of an end, and the most memory that it has, in KiB", programs)
     for depth in settings.depths:
@@ -30,10 +28,10 @@ def measure(programs, settings, work):
             answer = moment_of(updates, degree)
             word = f"moment:0:{degree}"
             for _ in range(settings.rounds):
-                for name, program in reachable(programs, depth):
+                for name, program in programs.items():
                     for end, child in zip(ENDS, talks.answered(name, program, word, answer)):
                         table.saw(line_name(end, depth, degree), name, child.cpu * 1e3)
-            for name, program in reachable(programs, depth):
+            for name, program in programs.items():
                 for end, child in zip(ENDS, talks.answered(name, program, word, answer, traced=True)):
                     table.note(line_name(end, depth, degree), f"{name} KiB", child.peak)
     table.show()

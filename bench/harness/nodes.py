@@ -3,7 +3,7 @@
 import struct
 
 from harness.programs import valgrind
-from harness.settings import reachable, record_size
+from harness.settings import record_size
 from harness.talks import Talks
 
 # How many heavy entries there are. They lie evenly, so that there are about 1,000, 10,000 and 100,000 nodes.
@@ -41,6 +41,10 @@ class Answer:
         """The most nodes that a level can have, for which a space is reserved."""
         return 2 * self.count
 
+    def pairs(self):
+        """The answer, as a report has it."""
+        return " ".join(f"{item}:{AT_LEAST}" for item in self.items)
+
     def asked(self):
         return f"heavy:0:{AT_LEAST}"
 
@@ -61,7 +65,7 @@ def measure(programs, settings, work):
         for count in HEAVY[depth]:
             answer = Answer(count, depth)
             talks = Talks(answer.write, depth, work)
-            counts = {name: counted(talks, answer, name, program) for name, program in reachable(programs, depth)}
+            counts = {name: counted(talks, answer, name, program) for name, program in programs.items()}
             first = first or counts["sip"]
             above += show(answer, counts, first, taken(talks, answer, programs["sip"]))
     return above
@@ -69,7 +73,7 @@ def measure(programs, settings, work):
 
 def counted(talks, answer, name, program):
     """What the verifier executes for a node."""
-    talks.answered(name, program, answer.asked(), " ".join(f"{item}:{AT_LEAST}" for item in answer.items))
+    talks.answered(name, program, answer.asked(), answer.pairs())
     whole, without = (talks.count(program, [word], 1) for word in (answer.asked(), answer.unasked()))
     return whole.less(without).by(answer.nodes())
 

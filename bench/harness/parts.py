@@ -21,6 +21,9 @@ BESIDE = {
 # The same blocks for several numbers, each with challenges of its own. They are not counted.
 MANY = tuple(f"{number}{count}" for number in ("root", "point", "augroot") for count in (16, 64))
 
+# How many times the limit's time a running number may take that is fed alone, and each of 64.
+LIMITS = {"root": 1.25, "point": 1.25, "augroot": 1.1, "root64": 1.3, "point64": 1.3, "augroot64": 1.3}
+
 # The helper's end of a moment, of a million updates of 1 or as many as leave room for it. They are not counted.
 MOMENTS = ("moment3", "moment8")
 
@@ -76,6 +79,9 @@ def measure(programs, settings, work):
                         queries.note(f"depth {depth}", f"{program} count", counts.by(1e6))
                     else:
                         records.note(f"{part} {depth}", f"{program} count", counts)
+    for part, most in LIMITS.items():
+        for depth in settings.depths:
+            (many if part in MANY else records).hold(f"{part} {depth}", most)
     records.show()
     many.show()
     queries.show()

@@ -26,6 +26,12 @@ def plain(name, work):
     return path
 
 
+def other(variable):
+    """The program of another commit, where the environment gives its path."""
+    path = os.environ.get(variable)
+    return {"old": [os.path.abspath(path)]} if path else {}
+
+
 class Programs:
     """A program is the words that it begins with."""
 
@@ -36,9 +42,7 @@ class Programs:
         """Those that have both ends of a talk, by name. `old` is there only where its path is given."""
         talk = plain("talk", self.work)
         programs = {"sip": [proved("sip", ["--version"])], "plain": [talk, "plain"], "limit": [talk, "limit"]}
-        if os.environ.get("OLD"):
-            programs["old"] = [os.path.abspath(os.environ["OLD"])]
-        return programs
+        return programs | other("OLD")
 
     def sip(self):
         """`sip` alone, where nothing is compared with other programs."""
@@ -56,8 +60,10 @@ class Programs:
         return {"sip": [proved("sip", ["--version"])], "base": [os.path.abspath(path)]}
 
     def parts(self):
+        """Those that have the parts, by name, as for the talks."""
         yardstick = plain("yardstick", self.work)
-        return {"sip": [proved("sip_bench", [])], "plain": [yardstick, "plain"], "limit": [yardstick, "limit"]}
+        programs = {"sip": [proved("sip_bench", [])], "plain": [yardstick, "plain"], "limit": [yardstick, "limit"]}
+        return programs | other("OLD_BENCH")
 
 
 def valgrind():

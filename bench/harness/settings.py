@@ -23,8 +23,3 @@ def record_size(depth):
 def stream_word(path, depth):
     """The word that names a file of such records."""
     return path if depth <= 32 else f"wide:{path}"
-
-
-def reachable(programs, depth):
-    """The programs that can be run at this depth: an old one may have none above 32."""
-    return [(name, program) for name, program in programs.items() if name != "old" or depth <= 32]

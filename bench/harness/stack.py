@@ -7,7 +7,7 @@ from harness.hitters import AT_LEAST
 from harness.lookups import Lookups
 from harness.moments import DEGREES, Moments, ones
 from harness.serving import QUESTIONS, Stores
-from harness.settings import reachable, stream_word
+from harness.settings import stream_word
 from harness.streams import put
 from harness.talks import Talks, made, parts
 
@@ -79,7 +79,7 @@ def see_talks(table, programs, settings, depth, work):
     asked = [(f"{queries:2}", parts(queries)) for queries in settings.queries]
     for label, words in asked + [(word, [word]) for word in OTHERS]:
         stacks = {}
-        for name, program in reachable(programs, depth):
+        for name, program in programs.items():
             stacks[name] = [child.stack for child in talks.talk(name, program, words, traced=True)]
         table.talk(talks, label, stacks, ENDS)
 

@@ -2,7 +2,7 @@
 
 import struct
 
-from harness.settings import reachable, record_size
+from harness.settings import record_size
 from harness.tables import Table
 from harness.talks import Talks, made
 
@@ -34,10 +34,10 @@ def measured(name, asked, programs, settings, work):
         queries = Queries(talks.stream, depth, asked)
         for _ in range(settings.rounds):
             for word in queries.words:
-                for name, program in reachable(programs, depth):
+                for name, program in programs.items():
                     for end, child in zip(ENDS, queries.talk(talks, name, program, word)):
                         table.saw(line_name(end, depth, word), name, child.cpu * 1e3)
-        above += note(table, queries, talks, reachable(programs, depth))
+        above += note(table, queries, talks, programs.items())
     table.show()
     return table.above + above
 

@@ -6,7 +6,7 @@ import os
 from harness.children import Child, run, wait
 from harness.counts import counted, counting
 from harness.programs import valgrind
-from harness.settings import reachable, stream_word
+from harness.settings import stream_word
 from harness.tables import Table
 
 # Each query is for so many items; query K, from 0, for those from K * 65,536 on.
@@ -89,19 +89,21 @@ def measure(programs, settings, work):
         for depth in settings.depths:
             talks = Talks(made(programs["sip"], records, depth), depth, work)
             for queries in settings.queries:
+                if queries >= MANY:
+                    table.hold(line_name("verify", depth, queries, records), MOST_OF_MANY)
                 for _ in range(settings.rounds):
-                    for name, program in reachable(programs, depth):
-                        see(table, talks.talk(name, program, parts(queries)), name, (records, depth, queries))
-                for name, program in reachable(programs, depth):
+                    for name, program in programs.items():
+                        see(table, talks.talk(name, program, parts(queries)), name, (depth, queries, records))
+                for name, program in programs.items():
                     ends = talks.talk(name, program, parts(queries), traced=True)
                     for end, child in zip(("help", "verify"), ends):
                         memory[end, records, depth, queries, name] = child.peak
-                        table.note(line_name(end, records, depth, queries), f"{name} KiB", child.peak)
+                        table.note(line_name(end, depth, queries, records), f"{name} KiB", child.peak)
     table.show()
     return table.above + grown(memory, settings)
 
 
-def line_name(end, records, depth, queries):
+def line_name(end, depth, queries, records):
     return f"{end:6} {depth} {queries:2} {records:9}"
 
 
@@ -122,6 +124,9 @@ def grown(memory, settings):
     return above
 
 
+# So many queries make a verifier's numbers most of its work, and it may take so many times the limit's time then.
+MANY, MOST_OF_MANY = 16, 1.3
+
 # How many records make the difference whose instructions are counted.
 COUNTED = 100_000
 
@@ -138,7 +143,7 @@ def count_ends(programs, settings, work):
             cells = {}
             for records in (COUNTED, 2 * COUNTED):
                 talks = Talks(made(programs["sip"], records, depth), depth, work)
-                for name, program in reachable(programs, depth):
+                for name, program in programs.items():
                     for which in (0, 1):
                         cells.setdefault((name, which), []).append(talks.count(program, parts(queries), which))
             for which, end in enumerate(("help", "verify")):

@@ -1,7 +1,7 @@
 //! Running numbers, fed by blocks of updates: tables of the products of seven challenges each are made on the stack for a block,
 //! and an update is then one look-up and one product for each of them, and one product with its delta.
 
-use super::field::{folded_eighth, folded_once, folded_times, minus, of_signed, of_wide, plus, times};
+use super::field::{minus, of_signed, plus, times};
 use super::streams::Update;
 
 /// The challenges of a query, the lowest level's first.
@@ -69,28 +69,6 @@ pub fn point(seat: &Seat, value: u64, block: &[Update]) -> u64 {
 }
 
 /// The same with products that are reduced in part, and one reduction for the block.
-fn lazy_sum<const COUNT: usize>(tables: &[Table; MOST_TABLES], block: &[Update]) -> u64 {
-    let mut sum = 0;
-    for update in block {
-        let mut weight = tables[0][entry_of(update.item, 0)];
-        for group in 1..COUNT {
-            weight = folded_times(weight, tables[group][entry_of(update.item, group)]);
-        }
-        sum += i128::from(folded_once(weight)) * i128::from(update.delta);
-    }
-    of_wide(sum)
-}
-
-pub fn lazy_root(seat: &Seat, value: u64, block: &[Update]) -> u64 {
-    let tables = tables(seat, true);
-    plus(value, with_count!(seat, lazy_sum(&tables, block)))
-}
-
-pub fn lazy_point(seat: &Seat, value: u64, block: &[Update]) -> u64 {
-    let tables = tables(seat, false);
-    plus(value, with_count!(seat, lazy_sum(&tables, block)))
-}
-
 /// What some levels make of a hash h: `scale * h + shift`.
 #[derive(Clone, Copy)]
 struct Step {
@@ -136,22 +114,4 @@ fn hash_sum<const COUNT: usize>(tables: &[StepTable; MOST_TABLES], value: u64, b
 pub fn augroot(seat: &Seat, value: u64, block: &[Update]) -> u64 {
     let tables = step_tables(seat);
     with_count!(seat, hash_sum(&tables, value, block))
-}
-
-fn lazy_hash_sum<const COUNT: usize>(tables: &[StepTable; MOST_TABLES], block: &[Update]) -> u64 {
-    let mut sum = 0;
-    for update in block {
-        let mut weight = tables[0][entry_of(update.item, 0)].shift;
-        for group in 1..COUNT {
-            let step = tables[group][entry_of(update.item, group)];
-            weight = folded_eighth(u128::from(weight) * u128::from(8 * step.scale) + u128::from(8 * step.shift));
-        }
-        sum += i128::from(folded_once(weight)) * i128::from(update.delta);
-    }
-    of_wide(sum)
-}
-
-pub fn lazy_augroot(seat: &Seat, value: u64, block: &[Update]) -> u64 {
-    let tables = step_tables(seat);
-    plus(value, with_count!(seat, lazy_hash_sum(&tables, block)))
 }

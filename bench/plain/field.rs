@@ -3,7 +3,8 @@
 /// The modulus.
 pub const P: u64 = (1 << 61) - 1;
 
-fn reduced_once(x: u64) -> u64 {
+/// The residue of a number below twice the modulus.
+pub fn reduced_once(x: u64) -> u64 {
     if x >= P { x - P } else { x }
 }
 

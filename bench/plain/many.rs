@@ -1,4 +1,4 @@
-//! Several running numbers that are fed with the same blocks, each with challenges of its own.
+//! Running numbers, one or several, that are fed with the same blocks, each with challenges of its own.
 
 use super::blocks::{self, Seat};
 use super::field::{folded_eighth, minus, of, of_wide_unsigned, plus, times};
@@ -7,7 +7,9 @@ use super::streams::Update;
 /// Numbers of one kind.
 pub trait Many {
     /// Those of zeros, one for each seat.
-    fn of(seats: Vec<Seat>) -> Self;
+    fn of(seats: Vec<Seat>) -> Self
+    where
+        Self: Sized;
 
     /// Gives a block of updates to each of them.
     fn update_all(&mut self, block: &[Update]);

@@ -24,7 +24,6 @@ pub mod transcripts;
 pub mod vector;
 pub mod verifier;
 
-use blocks::Seat;
 use many::{KeptProducts, KeptSteps, Many, OneByOne};
 use products::{Lazy, Products, Reduced};
 use siblings::Tables;
@@ -37,25 +36,16 @@ pub trait Design {
     /// One side's vector.
     type Vector: Gathering;
 
-    /// Several roots, extensions and augmented roots.
-    type Roots: Many;
-    type Points: Many;
-    type AugRoots: Many;
+    /// Roots, extensions and augmented roots, one or several.
+    type Roots: Many + 'static;
+    type Points: Many + 'static;
+    type AugRoots: Many + 'static;
 
     /// The sums of products of a round polynomial.
     type Products: Products;
 
     /// How many frames of a stream a verifier gathers before it adds their updates to its roots.
     const FRAMES: usize;
-
-    /// The root after a block of updates.
-    fn root(seat: &Seat, value: u64, block: &[Update]) -> u64;
-
-    /// The multilinear extension after a block of updates.
-    fn point(seat: &Seat, value: u64, block: &[Update]) -> u64;
-
-    /// The hash of the augmented root after a block of updates.
-    fn augroot(seat: &Seat, value: u64, block: &[Update]) -> u64;
 
     /// The sum of entries, each times the product of the challenges at the bits of its index that are 1, up to a level.
     fn weighed(tables: &Tables, entries: &[Entry]) -> u64;
@@ -74,18 +64,6 @@ impl Design for Plain {
     type Products = Reduced;
 
     const FRAMES: usize = 1;
-
-    fn root(seat: &Seat, value: u64, block: &[Update]) -> u64 {
-        blocks::root(seat, value, block)
-    }
-
-    fn point(seat: &Seat, value: u64, block: &[Update]) -> u64 {
-        blocks::point(seat, value, block)
-    }
-
-    fn augroot(seat: &Seat, value: u64, block: &[Update]) -> u64 {
-        blocks::augroot(seat, value, block)
-    }
 
     fn weighed(tables: &Tables, entries: &[Entry]) -> u64 {
         tables.weighed(entries)
@@ -106,18 +84,6 @@ impl Design for Limit {
     type Products = Lazy;
 
     const FRAMES: usize = 8;
-
-    fn root(seat: &Seat, value: u64, block: &[Update]) -> u64 {
-        blocks::lazy_root(seat, value, block)
-    }
-
-    fn point(seat: &Seat, value: u64, block: &[Update]) -> u64 {
-        blocks::lazy_point(seat, value, block)
-    }
-
-    fn augroot(seat: &Seat, value: u64, block: &[Update]) -> u64 {
-        blocks::lazy_augroot(seat, value, block)
-    }
 
     fn weighed(tables: &Tables, entries: &[Entry]) -> u64 {
         tables.lazy_weighed(entries)

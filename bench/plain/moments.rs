@@ -25,7 +25,9 @@ pub fn sum_of_ends(poly: &[u64]) -> u64 {
 
 /// The first powers of a number, from 1 on.
 #[inline]
-fn powers<const K: usize>(x: u64) -> [u64; K] {
+fn powers<S: Products, const K: usize>(x: u64) -> [u64; K] {
+    // Eight times a factor has to fit in a word.
+    let x = S::reduced(x);
     let mut powers = [1; K];
     for degree in 1..K {
         powers[degree] = if degree == 1 { x } else { times(powers[degree - 1], x) };
@@ -43,13 +45,13 @@ impl<S: Products, const K: usize> Sums<S, K> {
 
     #[inline]
     fn add_alone(&mut self, u: u64) {
-        self.0[0].add(powers::<K>(u)[K - 1], u);
+        self.0[0].add(powers::<S, K>(u)[K - 1], u);
     }
 
     /// What a pair counts in all but S_0.
     #[inline]
     fn add_crosses(&mut self, u: u64, w: u64) {
-        let (left, right) = (powers::<K>(u), powers::<K>(w));
+        let (left, right) = (powers::<S, K>(u), powers::<S, K>(w));
         for (place, sum) in self.0.iter_mut().enumerate().skip(1) {
             sum.add(left[K - place], right[place]);
         }

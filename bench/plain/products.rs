@@ -1,7 +1,7 @@
 //! The two forms of a sum of products, and of the fold of a pair: by the field's own calls, and with products that are reduced in
 //! part.
 
-use super::field::{P, folded, minus, of, plus, times};
+use super::field::{P, folded, minus, of, plus, reduced_once, times};
 
 /// A sum of products, and the arithmetic of the numbers that it is made of. They are residues, reduced as far as the form wants.
 pub trait Products: Default {
@@ -13,6 +13,9 @@ pub trait Products: Default {
     fn difference(w: u64, u: u64) -> u64;
 
     fn add(&mut self, a: u64, b: u64);
+
+    /// A number as the field's own calls want it.
+    fn reduced(u: u64) -> u64;
 
     /// The sum as an element.
     fn total(&self) -> u64;
@@ -41,6 +44,11 @@ impl Products for Reduced {
     #[inline]
     fn add(&mut self, a: u64, b: u64) {
         self.0 = plus(self.0, times(a, b));
+    }
+
+    #[inline]
+    fn reduced(u: u64) -> u64 {
+        u
     }
 
     fn total(&self) -> u64 {
@@ -82,6 +90,11 @@ impl Products for Lazy {
         if self.0 >> 127 != 0 {
             self.0 = (self.0 & u128::from(P)) + (self.0 >> 61);
         }
+    }
+
+    #[inline]
+    fn reduced(u: u64) -> u64 {
+        reduced_once(u)
     }
 
     fn total(&self) -> u64 {

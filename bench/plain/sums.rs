@@ -262,9 +262,9 @@ fn within(expected: u64, inner: u64, level: &Level, interval: &Interval) -> Poly
     let (mut c0, mut c2) = (inner, 0);
     let (lo, hi) = (interval.lo >> 1, interval.hi >> 1);
     let mut add = |pair: u64| {
-        let ([v, x], u) = (interval.pair(pair), level.at(2 * pair));
+        let ([v, x], [u, w]) = (interval.pair(pair), [2 * pair, 2 * pair + 1].map(|place| of(level.at(place))));
         c0 = plus(c0, times(u, v));
-        c2 = plus(c2, times(minus(level.at(2 * pair + 1), u), minus(x, v)));
+        c2 = plus(c2, times(minus(w, u), minus(x, v)));
     };
     add(lo);
     if hi > lo {

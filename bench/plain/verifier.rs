@@ -8,6 +8,7 @@ use super::hitters;
 use super::interval::Interval;
 use super::lines::Writer;
 use super::lookups::{Kind, Look};
+use super::many::Many;
 use super::moments;
 use super::questions::{Question, Talk};
 use super::streams::{NARROW, Reader, Update, WIDE, bad};
@@ -22,36 +23,49 @@ const BLOCK: usize = 32;
 struct Query {
     question: Question,
     seat: Seat,
-    /// The numbers of the two sides: of side 0 the root for a sub-vector or a lookup, for a sum or a moment the extensions of those
-    /// that it is about, and for heavy hitters the hash of the augmented root.
-    numbers: [u64; 2],
+    /// The numbers of the two sides, of those that it is about: the root for a sub-vector or a lookup, for a sum or a moment the
+    /// extension, and for heavy hitters the hash of the augmented root.
+    numbers: [Option<Box<dyn Many>>; 2],
     /// The sum of the side, for heavy hitters.
     total: i64,
 }
 
 impl Query {
-    fn update<D: Design>(&mut self, side: usize, block: &[Update]) {
-        if self.question.is_about(side) {
-            let update_all = match self.question {
-                Question::Sub { .. } | Question::Look(_) => D::root,
-                Question::Heavy { .. } => {
-                    self.total += block.iter().map(|update| update.delta).sum::<i64>();
-                    D::augroot
-                }
-                _ => D::point,
-            };
-            self.numbers[side] = update_all(&self.seat, self.numbers[side], block);
+    fn of<D: Design>(question: Question, seat: Seat) -> Self {
+        let number = |side| question.is_about(side).then(|| number_of::<D>(&question, seat.clone()));
+        Query { numbers: [number(0), number(1)], question, seat, total: 0 }
+    }
+
+    fn update(&mut self, side: usize, block: &[Update]) {
+        if let Some(number) = &mut self.numbers[side] {
+            number.update_all(block);
+            if let Question::Heavy { .. } = self.question {
+                self.total += block.iter().map(|update| update.delta).sum::<i64>();
+            }
         }
+    }
+
+    fn number(&self, side: usize) -> u64 {
+        self.numbers[side].as_ref().map_or(0, |number| number.values()[0])
     }
 
     /// What the last value of a sum has to be.
     fn product(&self) -> u64 {
         match self.question {
             Question::Sub { .. } | Question::Heavy { .. } | Question::Moment { .. } | Question::Look(_) => 0,
-            Question::Range { side, lo, hi } => times(self.numbers[side], Interval::extension(lo, hi, &self.seat)),
-            Question::F2 { side } => times(self.numbers[side], self.numbers[side]),
-            Question::Inner => times(self.numbers[0], self.numbers[1]),
+            Question::Range { side, lo, hi } => times(self.number(side), Interval::extension(lo, hi, &self.seat)),
+            Question::F2 { side } => times(self.number(side), self.number(side)),
+            Question::Inner => times(self.number(0), self.number(1)),
         }
+    }
+}
+
+/// The number of one side that a question wants.
+fn number_of<D: Design>(question: &Question, seat: Seat) -> Box<dyn Many> {
+    match question {
+        Question::Sub { .. } | Question::Look(_) => Box::new(D::Roots::of(vec![seat])),
+        Question::Heavy { .. } => Box::new(D::AugRoots::of(vec![seat])),
+        _ => Box::new(D::Points::of(vec![seat])),
     }
 }
 
@@ -86,7 +100,7 @@ fn feed<D: Design, const SIZE: usize, const BOTH: bool>(stream: &mut Reader, que
         }
         for (side, updates) in [&first, &second].into_iter().enumerate() {
             if is_last || counts[side] > (D::FRAMES - 1) * MOST_ROWS {
-                queries.iter_mut().for_each(|query| query.update::<D>(side, &updates[..counts[side]]));
+                queries.iter_mut().for_each(|query| query.update(side, &updates[..counts[side]]));
                 counts[side] = 0;
             }
         }
@@ -174,7 +188,7 @@ fn hear_part(query: &Query, (lo, hi): (u64, u64), frame: &mut Frame, link: &mut 
             }
         }
     }
-    if check.sum == query.numbers[0] { Ok(check.entries) } else { Err(bad("Root")) }
+    if check.sum == query.number(0) { Ok(check.entries) } else { Err(bad("Root")) }
 }
 
 /// Hears a claim.
@@ -224,7 +238,7 @@ fn hear_moment(query: &Query, side: usize, degree: usize, frame: &mut Frame, lin
             return Err(bad("Sum"));
         }
     }
-    if check.finish(query.numbers[side], degree) { Ok(claim) } else { Err(bad("Root")) }
+    if check.finish(query.number(side), degree) { Ok(claim) } else { Err(bad("Root")) }
 }
 
 /// Hears where a lookup's answer stands and the interval that proves it, and answers the entries of that interval.
@@ -257,7 +271,7 @@ fn hear_hitters(query: &Query, side: usize, at_least: u64, frame: &mut Frame, li
             }
         }
     }
-    check.finish(query.numbers[side])
+    check.finish(query.number(side))
 }
 
 /// Writes pairs behind the word of their query.
@@ -305,7 +319,7 @@ fn ask<W: Write>(talk: Talk, query: &Query, link: &mut Link, report: &mut Writer
 }
 
 /// The questions of these words, with challenges from a linear congruential generator.
-fn queries_of(talk: Talk, seed: &str, depth: u32, words: &[String]) -> Result<Vec<Query>> {
+fn queries_of<D: Design>(talk: Talk, seed: &str, depth: u32, words: &[String]) -> Result<Vec<Query>> {
     let mut bytes = [0; 32];
     File::open(seed)?.read_exact(&mut bytes)?;
     let mut state = number(&bytes[..8]);
@@ -315,7 +329,7 @@ fn queries_of(talk: Talk, seed: &str, depth: u32, words: &[String]) -> Result<Ve
     };
     let query = |word: &String| {
         let question = talk.of_word(word, depth)?;
-        Ok(Query { question, seat: (0..depth).map(|_| next()).collect(), numbers: [0; 2], total: 0 })
+        Ok(Query::of::<D>(question, (0..depth).map(|_| next()).collect()))
     };
     words.iter().map(query).collect()
 }
@@ -332,7 +346,7 @@ pub fn verify<D: Design>(place: Place, stream: &str, seed: &str, depth: u32, wor
     let is_wide = depth > MOST_NARROW;
     // The records of the stream are those of the frames, and are sent as they are.
     let path = if is_wide { stream.strip_prefix("wide:").ok_or_else(|| bad("the stream is not wide"))? } else { stream };
-    let mut queries = queries_of(talk, seed, depth, words)?;
+    let mut queries = queries_of::<D>(talk, seed, depth, words)?;
     let mut stream = Reader::new(File::open(path)?, depth);
     let mut link = Link::open(from, to, true)?;
     let mut frame = Frame::default();

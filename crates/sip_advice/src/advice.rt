@@ -283,21 +283,7 @@ pub fn hint(words: &Words, noted: &Noted, status: &Status) -> Option<HintLine>
     match status {
         Status::Usage { word } => Some(usage_line(words, *word)),
         Status::BadStream { at, why } => Some(stream_line(words, *at, *why)),
-        Status::Accepted
-        | Status::Served
-        | Status::Wrote
-        | Status::Rejected { .. }
-        | Status::BadSeed
-        | Status::SeedSpent
-        | Status::BadTranscript { .. }
-        | Status::BadFrame { .. }
-        | Status::TooWide { .. }
-        | Status::TooHigh { .. }
-        | Status::ReadFault { .. }
-        | Status::WriteFault { .. }
-        | Status::PeerFault
-        | Status::PeerClosed
-        | Status::OutOfMemory => other_line(words, cause_of(noted, status), status),
+        _ => other_line(words, cause_of(noted, status), status),
     }
 }
 

@@ -42,4 +42,4 @@ pub use page_text::{
     HELPMOM_PART, LINES_PART, LOOKUP_PART, MERGE_PART, MOMENTS_PART, PANEL_PART, PLAY_PART,
     SEATS_PART, SERVE_PART, SHOW_PART, VERIFY_PART, VERSION, WATCH_PART, WIDEN_PART,
 };
-pub use status_text::status_line;
+pub use status_text::{STATUS_ROOM, numbered_line, plain_line, status_line};

@@ -41,7 +41,7 @@ pub(crate) enum Role {
     End,
 }
 
-const VERIFY: [Role; 7] = [
+const VERIFY_ROLES: [Role; 7] = [
     Role::Verb,
     Role::Stream,
     Role::Seed,
@@ -51,21 +51,21 @@ const VERIFY: [Role; 7] = [
     Role::Depth,
 ];
 
-const HELP: [Role; 3] = [Role::Verb, Role::From, Role::To];
+const HELP_ROLES: [Role; 3] = [Role::Verb, Role::From, Role::To];
 
-const AUDIT: [Role; 3] = [Role::Verb, Role::Stored, Role::Transcript];
+const AUDIT_ROLES: [Role; 3] = [Role::Verb, Role::Stored, Role::Transcript];
 
-const SHOW: [Role; 2] = [Role::Verb, Role::Transcript];
+const SHOW_ROLES: [Role; 2] = [Role::Verb, Role::Transcript];
 
-const CONVERT: [Role; 2] = [Role::Verb, Role::Transcript];
+const CONVERT_ROLES: [Role; 2] = [Role::Verb, Role::Transcript];
 
-const GEN: [Role; 4] = [Role::Verb, Role::Number, Role::Count, Role::Depth];
+const GEN_ROLES: [Role; 4] = [Role::Verb, Role::Number, Role::Count, Role::Depth];
 
-const LINES: [Role; 3] = [Role::Verb, Role::Stream, Role::Depth];
+const LINES_ROLES: [Role; 3] = [Role::Verb, Role::Stream, Role::Depth];
 
-const WIDEN: [Role; 3] = [Role::Verb, Role::Stream, Role::Depth];
+const WIDEN_ROLES: [Role; 3] = [Role::Verb, Role::Stream, Role::Depth];
 
-const PLAY: [Role; 6] = [
+const PLAY_ROLES: [Role; 6] = [
     Role::Verb,
     Role::Stream,
     Role::Seed,
@@ -74,7 +74,7 @@ const PLAY: [Role; 6] = [
     Role::Depth,
 ];
 
-const PANEL: [Role; 5] = [
+const PANEL_ROLES: [Role; 5] = [
     Role::Verb,
     Role::Stream,
     Role::Seed,
@@ -83,7 +83,7 @@ const PANEL: [Role; 5] = [
 ];
 
 // Of `moments` too.
-const LOOKUP: [Role; 6] = [
+const LOOKUP_ROLES: [Role; 6] = [
     Role::Verb,
     Role::Stream,
     Role::Seed,
@@ -92,26 +92,26 @@ const LOOKUP: [Role; 6] = [
     Role::Depth,
 ];
 
-const SERVE: [Role; 4] = [Role::Verb, Role::Stored, Role::Input, Role::Output];
+const SERVE_ROLES: [Role; 4] = [Role::Verb, Role::Stored, Role::Input, Role::Output];
 
 // The places of a verb's words, the verb among them, and before what it asks.
 fn places_of(verb: Verb) -> &'static [Role]
     ensures { result.now ≡ places verb }
 {
     match verb {
-        Verb::Verify => &VERIFY,
-        Verb::Help => &HELP,
-        Verb::Audit => &AUDIT,
-        Verb::Show => &SHOW,
-        Verb::Convert => &CONVERT,
-        Verb::Gen => &GEN,
-        Verb::Lines => &LINES,
-        Verb::Widen => &WIDEN,
-        Verb::Play => &PLAY,
-        Verb::Lookup | Verb::Moments => &LOOKUP,
-        Verb::HelpLook | Verb::HelpMoments => &HELP,
-        Verb::Panel => &PANEL,
-        Verb::Serve => &SERVE,
+        Verb::Verify => &VERIFY_ROLES,
+        Verb::Help => &HELP_ROLES,
+        Verb::Audit => &AUDIT_ROLES,
+        Verb::Show => &SHOW_ROLES,
+        Verb::Convert => &CONVERT_ROLES,
+        Verb::Gen => &GEN_ROLES,
+        Verb::Lines => &LINES_ROLES,
+        Verb::Widen => &WIDEN_ROLES,
+        Verb::Play => &PLAY_ROLES,
+        Verb::Lookup | Verb::Moments => &LOOKUP_ROLES,
+        Verb::HelpLook | Verb::HelpMoments => &HELP_ROLES,
+        Verb::Panel => &PANEL_ROLES,
+        Verb::Serve => &SERVE_ROLES,
     }
 }
 

@@ -13,11 +13,11 @@ use sip_vector::Side;
 use sip_verifier::{Port, Status};
 
 /// No line of a status is longer.
-const ROOM: usize = 256;
+pub const STATUS_ROOM: usize = 256;
 
 // Adds the name of why a record is not legal.
-fn put_why(gathered: &mut ArrayVec<u8, ROOM>, why: Why)
-    requires { array_vec_len gathered.old + 16 ≤ ROOM }
+fn put_why(gathered: &mut ArrayVec<u8, STATUS_ROOM>, why: Why)
+    requires { array_vec_len gathered.old + 16 ≤ STATUS_ROOM }
     ensures items { gathered.new.items ≡ gathered.old.items ++ why_name why }
     ensures len { array_vec_len gathered.new ≤ array_vec_len gathered.old + 16 }
 {
@@ -33,8 +33,8 @@ fn put_why(gathered: &mut ArrayVec<u8, ROOM>, why: Why)
 }
 
 // Adds the name of a port.
-fn put_port(gathered: &mut ArrayVec<u8, ROOM>, port: Port)
-    requires { array_vec_len gathered.old + 16 ≤ ROOM }
+fn put_port(gathered: &mut ArrayVec<u8, STATUS_ROOM>, port: Port)
+    requires { array_vec_len gathered.old + 16 ≤ STATUS_ROOM }
     ensures items { gathered.new.items ≡ gathered.old.items ++ port_name port }
     ensures len { array_vec_len gathered.new ≤ array_vec_len gathered.old + 16 }
 {
@@ -46,8 +46,8 @@ fn put_port(gathered: &mut ArrayVec<u8, ROOM>, port: Port)
     }
 }
 
-// A line of a text.
-fn plain(text: &[u8]) -> ArrayVec<u8, ROOM>
+/// A line of a text.
+pub fn plain_line(text: &[u8]) -> ArrayVec<u8, STATUS_ROOM>
     requires { length text.now ≤ 100 }
     ensures { result.items ≡ text.now ++ 10 ∷ [] }
 {
@@ -57,8 +57,8 @@ fn plain(text: &[u8]) -> ArrayVec<u8, ROOM>
     gathered
 }
 
-// A line of a text, a number and another text.
-fn numbered(text: &[u8], number: u64, rest: &[u8]) -> ArrayVec<u8, ROOM>
+/// A line of a text, a number and another text.
+pub fn numbered_line(text: &[u8], number: u64, rest: &[u8]) -> ArrayVec<u8, STATUS_ROOM>
     requires first { length text.now ≤ 100 }
     requires last { length rest.now ≤ 100 }
     ensures { result.items ≡ text.now ++ decimal number ++ rest.now ++ 10 ∷ [] }
@@ -72,7 +72,7 @@ fn numbered(text: &[u8], number: u64, rest: &[u8]) -> ArrayVec<u8, ROOM>
 }
 
 // A line of a text and the name of a port.
-fn on_port(text: &[u8], port: Port) -> ArrayVec<u8, ROOM>
+fn on_port(text: &[u8], port: Port) -> ArrayVec<u8, STATUS_ROOM>
     requires { length text.now ≤ 100 }
     ensures { result.items ≡ text.now ++ port_name port ++ 10 ∷ [] }
 {
@@ -84,7 +84,7 @@ fn on_port(text: &[u8], port: Port) -> ArrayVec<u8, ROOM>
 }
 
 // The line of a bad stream.
-fn bad_stream(at: u64, why: Why) -> ArrayVec<u8, ROOM>
+fn bad_stream(at: u64, why: Why) -> ArrayVec<u8, STATUS_ROOM>
     ensures { result.items ≡ line_of_status (Status.BadStream at why) }
 {
     let mut gathered = ArrayVec::new();
@@ -97,28 +97,28 @@ fn bad_stream(at: u64, why: Why) -> ArrayVec<u8, ROOM>
 }
 
 // The line of a status.
-fn line_of(status: &Status) -> ArrayVec<u8, ROOM>
+fn line_of(status: &Status) -> ArrayVec<u8, STATUS_ROOM>
     ensures { result.items ≡ line_of_status status.now }
 {
     match status {
         Status::Accepted | Status::Served | Status::Wrote | Status::Rejected { .. } => {
             ArrayVec::new()
         }
-        Status::Usage { word } => numbered(b"sip: usage at word ", *word as u64, b""),
+        Status::Usage { word } => numbered_line(b"sip: usage at word ", *word as u64, b""),
         Status::BadStream { at, why } => bad_stream(*at, *why),
-        Status::BadSeed => plain(b"sip: seed too short"),
-        Status::SeedSpent => plain(b"sip: seed spent"),
+        Status::BadSeed => plain_line(b"sip: seed too short"),
+        Status::SeedSpent => plain_line(b"sip: seed spent"),
         Status::BadTranscript { offset } => {
-            numbered(b"sip: bad transcript at offset ", *offset, b"")
+            numbered_line(b"sip: bad transcript at offset ", *offset, b"")
         }
-        Status::BadFrame { offset } => numbered(b"sip: bad frame at offset ", *offset, b""),
-        Status::TooWide { query } => numbered(b"sip: query ", *query as u64, b" too wide"),
-        Status::TooHigh { query } => numbered(b"sip: query ", *query as u64, b" too high"),
+        Status::BadFrame { offset } => numbered_line(b"sip: bad frame at offset ", *offset, b""),
+        Status::TooWide { query } => numbered_line(b"sip: query ", *query as u64, b" too wide"),
+        Status::TooHigh { query } => numbered_line(b"sip: query ", *query as u64, b" too high"),
         Status::ReadFault { port } => on_port(b"sip: read fault on ", *port),
         Status::WriteFault { port } => on_port(b"sip: write fault on ", *port),
-        Status::PeerFault => plain(b"sip: peer fault"),
-        Status::PeerClosed => plain(b"sip: peer closed"),
-        Status::OutOfMemory => plain(b"sip: out of memory"),
+        Status::PeerFault => plain_line(b"sip: peer fault"),
+        Status::PeerClosed => plain_line(b"sip: peer closed"),
+        Status::OutOfMemory => plain_line(b"sip: out of memory"),
     }
 }
 

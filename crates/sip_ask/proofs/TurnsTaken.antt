@@ -38,7 +38,7 @@ use Rattle.sip_ask.specs.declared.status.AskStatus.TheVariants as statuses
 use Rattle.sip_ask.specs.inside.Ending.{of_run}
 use Rattle.sip_ask.specs.declared.asking.Asking.{Asking}
 use Rattle.sip_ask.specs.inside.Seating.{Takes}
-use Rattle.sip_ask.specs.inside.Steps.{IsIdle, IsMarked, IsNext, IsReportStop, SaysNone, Stores, asks_at, behind_turn}
+use Rattle.sip_ask.specs.inside.Steps.{IsIdle, IsMarked, IsNext, IsReportStop, SaysNone, StoresSeat, asks_at, behind_turn}
 use Rattle.sip_ask.proofs.Chosen.{asks-none, asks-some, chosen-is}
 use Rattle.sip_sketch.proofs.Marked.{length-used}
 
@@ -105,7 +105,7 @@ link_said version old new before now (Err runs.PeerFault) kept = (kept.said, kep
 link_said version old new before now (Err _) kept = (kept.said, kept.link, kept.talk)
 
 pub stored_then : (s : SketchValues) (place : ℕ) (old mid new before now : Option (List TalkEvent)) (version : Version) (r : Result (Unit {0}) Status)
-    → GoesOn old mid (steps_of s place) → KeepsTalk mid new before now version r → Stores s (Some place) old new (of_run r)
+    → GoesOn old mid (steps_of s place) → KeepsTalk mid new before now version r → StoresSeat s (Some place) old new (of_run r)
 stored_then s place old mid new before now version r stored kept = by_result r
   where
     is_stored : IsStored s place old new
@@ -113,7 +113,7 @@ stored_then s place old mid new before now version r stored kept = by_result r
         let said = link_said version mid new before now r kept in
         record { said = said.0; link = said.1; talk = GoesOn-trans old mid new (steps_of s place) said.0 stored said.2 }
 
-    by_result : (r : Result (Unit {0}) Status) → Stores s (Some place) old new (of_run r)
+    by_result : (r : Result (Unit {0}) Status) → StoresSeat s (Some place) old new (of_run r)
     by_result (Ok x) = is_stored
     by_result (Err status) = inr is_stored
 
@@ -179,19 +179,19 @@ module _ (version : Version) where
 
   -- one question was done
   pub stores_more : (s next : SketchValues) (place : Option ℕ) (places : List (Option ℕ)) (old mid new : Option (List TalkEvent)) (r : Result (Unit {0}) AskStatus) (x : Unit {0})
-      → r ≡ Ok x → Stores s place old mid r → next ≡ marked_by place s → StoresFirst version next places mid new → StoresFirst version s (place ∷ places) old new
+      → r ≡ Ok x → StoresSeat s place old mid r → next ≡ marked_by place s → StoresFirst version next places mid new → StoresFirst version s (place ∷ places) old new
   stores_more s next None places old mid new r x is stores same rest =
       subst (λ (talk : Option (List TalkEvent)). StoresFirst version s places talk new) stores (subst (λ (n : SketchValues). StoresFirst version n places mid new) same rest)
   stores_more s next (Some place) places old mid new r x is stores same rest =
-      let stored : IsStored s place old mid = subst (Stores s (Some place) old mid) is stores in
+      let stored : IsStored s place old mid = subst (StoresSeat s (Some place) old mid) is stores in
       inr (inr (mid, stored, subst (λ (n : SketchValues). StoresFirst version n places mid new) same rest))
 
   -- it stopped at one
   pub stores_stop : (s : SketchValues) (place : Option ℕ) (places : List (Option ℕ)) (old new : Option (List TalkEvent)) (r : Result (Unit {0}) AskStatus) (status : AskStatus)
-      → r ≡ Err status → Stores s place old new r → StoresFirst version s (place ∷ places) old new
+      → r ≡ Err status → StoresSeat s place old new r → StoresFirst version s (place ∷ places) old new
   stores_stop s None places old new r status is stores =
       subst (λ (talk : Option (List TalkEvent)). StoresFirst version s places old talk) (sym stores) (nothing_stored s places old)
-  stores_stop s (Some place) places old new r status is stores = elim (subst (Stores s (Some place) old new) is stores) [
+  stores_stop s (Some place) places old new r status is stores = elim (subst (StoresSeat s (Some place) old new) is stores) [
     | inl part ↦ inl part
     | inr stored ↦ inr (inl stored)
   ]
@@ -214,12 +214,12 @@ module _ (version : Version) where
   -- ---- at a question among them
 
   module _ (s : SketchValues) (places : List (Option ℕ)) (i : ℕ) (p : Option ℕ) (r : Result (Unit {0}) AskStatus) (within : i < length places) where
-    pub stores_more_at : (next : SketchValues) (old mid new : Option (List TalkEvent)) (x : Unit {0}) → r ≡ Ok x → Stores s (get_or places i p) old mid r
+    pub stores_more_at : (next : SketchValues) (old mid new : Option (List TalkEvent)) (x : Unit {0}) → r ≡ Ok x → StoresSeat s (get_or places i p) old mid r
         → next ≡ marked_by (get_or places i p) s → StoresFirst version next (drop (i + 1) places) mid new → StoresFirst version s (drop i places) old new
     stores_more_at next old mid new x is stores same rest =
         rw (drop_more places i p within) (stores_more s next (get_or places i p) (drop (i + 1) places) old mid new r x is stores same rest)
 
-    pub stores_stop_at : (old new : Option (List TalkEvent)) (status : AskStatus) → r ≡ Err status → Stores s (get_or places i p) old new r → StoresFirst version s (drop i places) old new
+    pub stores_stop_at : (old new : Option (List TalkEvent)) (status : AskStatus) → r ≡ Err status → StoresSeat s (get_or places i p) old new r → StoresFirst version s (drop i places) old new
     stores_stop_at old new status is stores = rw (drop_more places i p within) (stores_stop s (get_or places i p) (drop (i + 1) places) old new r status is stores)
 
     module _ (m : Manner Question Answered) (number : ℕ) (asked : List Question) (q : Question) (least : i < length asked) where

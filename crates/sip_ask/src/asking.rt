@@ -15,7 +15,7 @@ ghost use Rattle.sip_ask.specs.Causes.{HasRisen, IsStop};
 ghost use Rattle.sip_ask.specs.Turns.{block_at};
 ghost use Rattle.sip_ask.specs.Marking.{mark};
 ghost use Rattle.sip_ask.specs.inside.Steps.{IsIdle, IsLive, IsMarked, IsNext, IsReportStop};
-ghost use Rattle.sip_ask.specs.inside.Steps.{SaysNone, StandsReady, Stores, behind_turn};
+ghost use Rattle.sip_ask.specs.inside.Steps.{SaysNone, StandsReady, StoresSeat, behind_turn};
 
 use crate::ending::{on_link, on_report, on_run};
 use crate::{AskPort, AskStatus};
@@ -97,7 +97,7 @@ impl Asking {
             → Came (asking self.old.asker.version self.old.asker.depth stream) self.old.sketch
             number question (D.talk desk.old) (D.talk desk.new) (K.talk report.old)
             (K.talk report.new) (Some place) result }
-        ensures stores { Stores self.old.sketch (Some place) (D.talk desk.old) (D.talk desk.new)
+        ensures stores { StoresSeat self.old.sketch (Some place) (D.talk desk.old) (D.talk desk.new)
             result }
         ensures sketch { self.new.sketch ≡ mark place self.old.sketch }
         ensures remaining { OnOk result
@@ -132,7 +132,8 @@ impl Asking {
             → Came (asking self.old.asker.version self.old.asker.depth stream) self.old.sketch
             number question.now (D.talk desk.old) (D.talk desk.new) (K.talk report.old)
             (K.talk report.new) place result }
-        ensures stores { Stores self.old.sketch place (D.talk desk.old) (D.talk desk.new) result }
+        ensures stores { StoresSeat self.old.sketch place (D.talk desk.old) (D.talk desk.new)
+            result }
         ensures sketch { self.new.sketch ≡ marked_by place self.old.sketch }
         ensures remaining { OnOk result
             (remaining_of self.new.asker ≡ behind_turn place (remaining_of self.old.asker)) }

@@ -54,14 +54,14 @@
 
 mod asking;
 mod choosing;
+mod desk_asking;
 mod ending;
 pub mod examples;
 pub mod laws;
 mod opening;
 mod status;
-mod steps;
 
 pub use choosing::{Places, choose};
+pub use desk_asking::{ask, version_for};
 pub use opening::{held_by, recall};
 pub use status::{AskPort, AskStatus};
-pub use steps::{ask, version_for};

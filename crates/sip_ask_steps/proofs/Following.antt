@@ -13,7 +13,7 @@ use Rattle.sip_sketch.specs.Sketches.{SketchValues}
 use Rattle.sip_sketch.specs.Standing.{Stands}
 use Rattle.sip_ask.specs.Asking.{Came, marked_by, steps_of}
 use Rattle.sip_ask.specs.Turns.{block_at}
-use Rattle.sip_ask.specs.inside.Steps.{Stores}
+use Rattle.sip_ask.specs.inside.Steps.{StoresSeat}
 use Rattle.sip_ask.proofs.TurnsTaken.{asks_more, next_block, next_count, stores_more}
 use Rattle.sip_ask_steps.specs.Plans.{IsNext, Plan, manner_of, version_of}
 use Rattle.sip_ask_steps.specs.Steps.{IsBefore}
@@ -33,7 +33,7 @@ module _ (p : Plan) (before : List TalkEvent) (now : SketchValues) (number : ℕ
   pub advance : (events : List TalkEvent)
       → ((stream : List Update) → Stands stream p.sketch → (talk : List TalkEvent)
       → Came (manner_of p stream) now number question (Some (talk ++ before)) (Some (talk ++ events)) None None place (Ok tt))
-      → ((talk : List TalkEvent) → Stores now place (Some (talk ++ before)) (Some (talk ++ events)) (Ok tt))
+      → ((talk : List TalkEvent) → StoresSeat now place (Some (talk ++ before)) (Some (talk ++ events)) (Ok tt))
       → IsBefore p events (marked_by place now) (suc number) more places
   advance events came stores = record {
     front = b.front ++ question ∷ [];

@@ -25,7 +25,7 @@ use Rattle.sip_ask.specs.Causes.{IsStop}
 use Rattle.sip_ask.specs.Turns.{block_at, held_by}
 use Rattle.sip_ask.specs.declared.status.AskStatus.{AskStatus}
 use Rattle.sip_ask.specs.inside.Opening.{OpensWith}
-use Rattle.sip_ask.specs.inside.Steps.{Stores, status_of}
+use Rattle.sip_ask.specs.inside.Steps.{StoresSeat, status_of}
 use Rattle.sip_ask.proofs.AskEnds.{talked-asks}
 use Rattle.sip_ask.proofs.TurnsTaken.{asked_came, asks_stop, stores_stop}
 use Rattle.sip_ask_steps.specs.Plans.{Ends, IsPlan, Plan, manner_of, opened, recalled, version_of}
@@ -105,7 +105,7 @@ module _ (p : Plan) (plan : IsPlan p) where
   -- at a question
   pub ends_at : (before events : List TalkEvent) (now : SketchValues) (number : ℕ) (question : Question) (more : List Question) (place : Option ℕ) (places : List (Option ℕ))
       → IsBefore p before now number (question ∷ more) (place ∷ places) → (status : AskStatus) → IsStop status
-      → ((talk : List TalkEvent) → Stores now place (Some (talk ++ before)) (Some (talk ++ events)) (Err status))
+      → ((talk : List TalkEvent) → StoresSeat now place (Some (talk ++ before)) (Some (talk ++ events)) (Err status))
       → ((talk : List TalkEvent) (stream : List Update) → Stands stream p.sketch
       → Came (manner_of p stream) now number question (Some (talk ++ before)) (Some (talk ++ events)) None None place (Err status))
       → Ends p events status

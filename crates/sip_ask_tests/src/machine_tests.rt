@@ -4,26 +4,13 @@ ghost use Rattle.sip_ask_steps.specs.Steps.{HasBegun};
 use crate::ask_tests::{ROWS, Row, desk, is_stored};
 use sip_ask::ask;
 use sip_ask_steps::{SketchAsking, Wants};
+use sip_check_tests::sizes::piece_of;
 use sip_ports::{Desk, MemoryDesk, MemorySink, TalkEvent};
 use sip_sketch::Sketch;
 use sip_sketch_tests::worked::WATCHED;
 use std::alloc::Global;
 use std::process::Abort;
 use std::test::Fail;
-
-// So many bytes behind the first few, or all that there are.
-fn piece_of(bytes: &[u8], from: usize, size: usize) -> &[u8] {
-    let rest = if from < bytes.len() {
-        &bytes[from..]
-    } else {
-        &[]
-    };
-    if size < rest.len() {
-        &rest[..size]
-    } else {
-        rest
-    }
-}
 
 // Notes what the desk did since so many events.
 fn note(log: &mut Vec<TalkEvent>, talk: &[TalkEvent], seen: usize) -> Result<(), Fail> {

@@ -6,15 +6,8 @@ use crate::duel::sent;
 use sip_command_tests::case::Case;
 use sip_command_tests::frames::*;
 use sip_command_tests::row::{RunInput, Shown};
-use sip_command_tests::sum_frames::{F2, RANGE_1_3};
-use sip_field::{Field, M61};
-use sip_lookup::Lookup;
-use sip_moments::Moment;
-use sip_question_tests::asking::{Numbers, Outcome, asked};
-use sip_questions::Question;
-use sip_vector::{Depth, Query, Side};
+use sip_question_tests::kinds::{KINDS, asked_in, wanted};
 use sip_verifier::Status;
-use sip_wire::Version;
 use std::alloc::Global;
 use std::process::Abort;
 use std::test::Fail;
@@ -43,64 +36,6 @@ const STORES: [(&str, &[u8]); 5] = [
     ("serve wide:s from -", &THREE_WIDE_RECORDS),
 ];
 
-// What is asked of the vector (3, 0, 5, 1).
-const EIGHT: [Question; 8] = [
-    Question::Query(Query::Sub { lo: 1, hi: 2 }),
-    Question::Lookup(Lookup::Succ(1)),
-    Question::Moment(Moment {
-        side: Side::First,
-        degree: 3,
-    }),
-    Question::Query(Query::F2 { side: Side::First }),
-    Question::Lookup(Lookup::Index(1)),
-    Question::Query(Query::Heavy {
-        side: Side::First,
-        at_least: 4,
-    }),
-    Question::Lookup(Lookup::Pred(1)),
-    Question::Query(Query::Range {
-        side: Side::First,
-        lo: 1,
-        hi: 3,
-    }),
-];
-
-const ASK_SUCC_1: [u8; 12] = [0x21, 0, 9, 3, 0, 0, 0, 0, 0, 0, 0, 1];
-
-const CUBES: [u8; 5] = [0x24, 0, 2, 0, 3];
-
-const ASK_INDEX_1: [u8; 12] = [0x21, 0, 9, 1, 0, 0, 0, 0, 0, 0, 0, 1];
-
-const SUB_1_1: [u8; 12] = [0x04, 0, 9, 1, 0, 0, 0, 1, 0, 0, 0, 1];
-
-const ASK_PRED_1: [u8; 12] = [0x21, 0, 9, 2, 0, 0, 0, 0, 0, 0, 0, 1];
-
-const SAID: [&[u8]; 20] = [
-    &SUB_1_2,
-    &REVEAL_OF_2,
-    &ASK_SUCC_1,
-    &SUB_1_2,
-    &REVEAL_OF_2,
-    &CUBES,
-    &REVEAL_OF_2,
-    &F2,
-    &REVEAL_OF_2,
-    &ASK_INDEX_1,
-    &SUB_1_1,
-    &REVEAL_OF_2,
-    &HEAVY_4,
-    &REVEAL_OF_2,
-    &ASK_PRED_1,
-    &SUB_0_1,
-    &REVEAL_OF_2,
-    &RANGE_1_3,
-    &REVEAL_OF_2,
-    &BYE,
-];
-
-const LINES: &[u8] = b"sub:1:2 2:5\nsucc:1 2:5\nmoment:0:3 153\nf2:0 35\nindex:1 0\n\
-    heavy:0:4 2:5\npred:1 0:3\nrange:0:1:3 6\n";
-
 // A run over a store that hears this, in pieces of that size.
 fn serve(alloc: Global, over: (&str, &[u8]), said: &[u8], chunk: usize) -> Result<Shown, Fail>
     requires { 1 ≤ chunk }
@@ -114,40 +49,18 @@ fn serve(alloc: Global, over: (&str, &[u8]), said: &[u8], chunk: usize) -> Resul
     input.run(alloc, chunk, None)
 }
 
-// Asks them of a helper that replies so, in pieces of that size.
-fn ask(alloc: Global, replies: &[u8], chunk: usize) -> Result<Outcome, Fail>
-    requires { 1 ≤ chunk }
-{
-    let numbers = Numbers {
-        root: M61::of(73),
-        extension: M61::of_signed(-3),
-        hash: M61::of(8739),
-        total: 9,
-        second: M61::of(0),
-    };
-    asked(
-        alloc,
-        Version::One,
-        Depth::new(2).unwrap(),
-        &[M61::of(2), M61::of(10)],
-        &numbers,
-        &EIGHT,
-        replies.to_vec(alloc)?,
-        chunk,
-    )
-}
-
 fn check_ends(rt: &impl Abort, alloc: Global, over: (&str, &[u8]), chunk: usize) -> Result<(), Fail>
     requires { 1 ≤ chunk }
 {
-    let said = SAID.concat(alloc)?;
+    let (said, lines) = wanted(alloc, &KINDS.each_ref())?;
     let heard = [OPEN_2.as_slice(), &RECALL_3, &said].concat(alloc)?;
     let served = serve(alloc, over, &heard, chunk)?;
     let written = sent(alloc, served.peer.talk())?;
     let Some(replies) = written.get(HELD_3.len()..) else {
         return Err("what is held")?;
     };
-    let came = ask(alloc, replies, chunk)?;
+    let questions = KINDS.map(|kind| kind.question);
+    let came = asked_in(alloc, &questions, replies.to_vec(alloc)?, chunk)?;
     let case = Case {
         name: over.0,
         number: chunk as u64,
@@ -157,7 +70,7 @@ fn check_ends(rt: &impl Abort, alloc: Global, over: (&str, &[u8]), chunk: usize)
     case.holds(written.starts_with(&HELD_3) && came.ended == Ok(()))
         .expect(rt, "a case");
     case.writes(&came.sent, &said).expect(rt, "a case");
-    case.writes(&came.lines, LINES).expect(rt, "a case");
+    case.writes(&came.lines, &lines).expect(rt, "a case");
     Ok(())
 }
 

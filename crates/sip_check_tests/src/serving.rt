@@ -16,6 +16,9 @@ pub trait Server {
     fn serve(alloc: Global, link: &mut MemoryLink) -> Self::End;
 }
 
+/// What a helper receives, part by part, how the talk ends, and what it sends, part by part.
+pub type Talk<'a, E> = (&'a [&'a [u8]], E, &'a [&'a [u8]]);
+
 /// Serves a talk over a link in memory, and answers how it ended and what was sent. `fails` has the
 /// numbers of the calls that fail.
 pub fn served<S: Server>(
@@ -49,11 +52,10 @@ pub fn is_served<S: Server>(
 }
 
 /// The number of the first of these talks that does not end so, or in which something else is sent,
-/// in pieces of one byte or in one piece. A talk is what the helper receives, part by part, how it
-/// ends, and what the helper sends, part by part.
+/// in pieces of one byte or in one piece.
 pub fn first_unserved<S: Server>(
     alloc: Global,
-    talks: &[(&[&[u8]], S::End, &[&[u8]])],
+    talks: &[Talk<'_, S::End>],
 ) -> Result<Option<usize>, OutOfMemory> {
     for (row, (parts, end, sent)) in talks.iter().enumerate() {
         let talk = parts.concat(alloc)?;

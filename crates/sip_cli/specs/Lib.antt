@@ -11,3 +11,4 @@ pub mod CommandClause
 pub mod Checking
 pub mod DoneClause
 pub mod Stored
+pub mod inside

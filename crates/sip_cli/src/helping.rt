@@ -1,15 +1,15 @@
 //! The commands of the other side.
 
-ghost use Rattle.std.specs.Prelude.{◌≡◌, ℕ, List};
-ghost use Rattle.sip_ports.specs.declared.port.TalkEvent.{TalkEvent as AnyTalkEvent};
-ghost use Rattle.sip_ports.specs.Ports.{GoesOn, Lasts, Rose};
+ghost use Rattle.std.specs.Prelude.{◌≡◌};
+ghost use Rattle.sip_ports.specs.Ports.{Lasts, Rose};
 ghost use Rattle.sip_helper.specs.Serving.{Serves};
 ghost use Rattle.sip_lookup.specs.Serving.{ServesLooks};
 ghost use Rattle.sip_moments.specs.Serving.{ServesMoments};
-ghost use Rattle.sip_verifier.specs.Snapshots.{Counts, counts};
+ghost use Rattle.sip_verifier.specs.Snapshots.{Counts};
 ghost use Rattle.sip_verifier.specs.Statuses.{FaultClause};
 ghost use Rattle.sip_cli.specs.HelpClause.{HelpClause, status_of};
 ghost use Rattle.sip_cli.specs.Statuses.{EndsHelp};
+ghost use Rattle.sip_cli.specs.inside.HelpEnds.{HelpEnds};
 
 use sip_helper::{HelpStatus, serve};
 use sip_lookup::serve_look;
@@ -39,11 +39,8 @@ fn status_of(how: HelpStatus) -> Status
 #[inline(never)]
 pub(crate) fn help<L: Link>(alloc: Global, peer: &mut L) -> Status
     ensures help { HelpClause Serves (L.talk peer.old) (L.talk peer.new) result }
-    ensures said { (said : List AnyTalkEvent) × GoesOn (L.talk peer.old) (L.talk peer.new) said }
-    ensures fault { (first firsts second seconds report reports keep keeps : ℕ)
-        → FaultClause (counts first second (L.faults peer.old) report keep)
-        (counts firsts seconds (L.faults peer.new) reports keeps) result }
-    ensures listed { EndsHelp result }
+    ensures ends { HelpEnds (L.talk peer.old) (L.talk peer.new) (L.faults peer.old)
+        (L.faults peer.new) result }
     ensures peer { Lasts L.faults L.wants L.is_sure peer.old peer.new }
 {
     status_of(serve(alloc, peer))
@@ -53,11 +50,8 @@ pub(crate) fn help<L: Link>(alloc: Global, peer: &mut L) -> Status
 #[inline(never)]
 pub(crate) fn help_look<L: Link>(alloc: Global, peer: &mut L) -> Status
     ensures help { HelpClause ServesLooks (L.talk peer.old) (L.talk peer.new) result }
-    ensures said { (said : List AnyTalkEvent) × GoesOn (L.talk peer.old) (L.talk peer.new) said }
-    ensures fault { (first firsts second seconds report reports keep keeps : ℕ)
-        → FaultClause (counts first second (L.faults peer.old) report keep)
-        (counts firsts seconds (L.faults peer.new) reports keeps) result }
-    ensures listed { EndsHelp result }
+    ensures ends { HelpEnds (L.talk peer.old) (L.talk peer.new) (L.faults peer.old)
+        (L.faults peer.new) result }
     ensures peer { Lasts L.faults L.wants L.is_sure peer.old peer.new }
 {
     status_of(serve_look(alloc, peer))
@@ -67,11 +61,8 @@ pub(crate) fn help_look<L: Link>(alloc: Global, peer: &mut L) -> Status
 #[inline(never)]
 pub(crate) fn help_moments<L: Link>(alloc: Global, peer: &mut L) -> Status
     ensures help { HelpClause ServesMoments (L.talk peer.old) (L.talk peer.new) result }
-    ensures said { (said : List AnyTalkEvent) × GoesOn (L.talk peer.old) (L.talk peer.new) said }
-    ensures fault { (first firsts second seconds report reports keep keeps : ℕ)
-        → FaultClause (counts first second (L.faults peer.old) report keep)
-        (counts firsts seconds (L.faults peer.new) reports keeps) result }
-    ensures listed { EndsHelp result }
+    ensures ends { HelpEnds (L.talk peer.old) (L.talk peer.new) (L.faults peer.old)
+        (L.faults peer.new) result }
     ensures peer { Lasts L.faults L.wants L.is_sure peer.old peer.new }
 {
     status_of(serve_moments(alloc, peer))

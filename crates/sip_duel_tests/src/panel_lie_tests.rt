@@ -10,11 +10,11 @@ ghost use Rattle.sip_verifier.specs.Tasks.{CanBeDone};
 
 use crate::duel_runs::task;
 use crate::facts::expect;
+use crate::panel_tests::run_over;
 use sip_duel::{Helper, HelperLink, Honest, Liar, Lie};
 use sip_ports::{MemorySink, MemorySource};
-use sip_session::panel;
 use sip_stream::Form;
-use sip_vector::{Negatives, Query};
+use sip_vector::Query;
 use sip_verifier::{Status, Task};
 use std::alloc::Global;
 use std::test::Fail;
@@ -58,20 +58,10 @@ fn run(
     requires new { All (λ l. l.kept.talk.items ≡ []) links.old.items }
     requires helpers { length links.old.items ≡ 2 }
 {
-    let mut first = MemorySource::new(b"0 0 3\n0 1 5\n".to_vec(alloc)?, 5, Vec::new(alloc));
-    let mut second = MemorySource::new(vec![in alloc; byte; 32]?, 5, Vec::new(alloc));
-    let mut report = MemorySink::new(alloc, 10_000, Vec::new(alloc));
-    let told = &mut Negatives::default();
-    let status = panel(
-        alloc,
-        task,
-        &mut first,
-        &mut second,
-        links,
-        &mut report,
-        told,
-    );
-    Ok((status, report))
+    let first = MemorySource::new(b"0 0 3\n0 1 5\n".to_vec(alloc)?, 5, Vec::new(alloc));
+    let second = MemorySource::new(vec![in alloc; byte; 32]?, 5, Vec::new(alloc));
+    let report = MemorySink::new(alloc, 10_000, Vec::new(alloc));
+    Ok(run_over(alloc, task, links, first, second, report))
 }
 
 // How a run over a seed of 32 such bytes ends, and whether it reports these lines.

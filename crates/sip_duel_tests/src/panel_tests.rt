@@ -5,7 +5,8 @@
 // replies fit together, so they pass every round, and at depth 2 the test behind the last one, of
 // round 2, finds another root. Of 0 it says what is right: the products with an empty side are 0,
 // and so is each polynomial.
-ghost use Rattle.std.specs.Prelude.{◌≡◌, [], All, IfOk, length};
+ghost use Rattle.std.specs.Prelude.{◌≡◌, ◌<◌, ◌≤◌, ◌*◌, [], All, IfOk, length};
+ghost use Rattle.sip_wire.specs.Table.{most_queries};
 ghost use Rattle.sip_verifier.specs.Tasks.{CanBeDone};
 
 use crate::duel_counting::Watched;
@@ -183,6 +184,33 @@ const ROWS: [Row<'static>; 12] = [
     ),
 ];
 
+// Runs a task over these links, this stream and this seed, and answers what it reported, too.
+pub(crate) fn run_over(
+    alloc: Global,
+    task: &Task,
+    links: &mut Vec<HelperLink>,
+    mut first: MemorySource,
+    mut second: MemorySource,
+    mut report: MemorySink,
+) -> (Status, MemorySink)
+    requires done { CanBeDone task.now }
+    requires some { 0 < length links.old.items }
+    requires few { length links.old.items * length task.now.queries.items ≤ most_queries }
+    requires new { All (λ l. l.kept.talk.items ≡ []) links.old.items }
+{
+    let told = &mut Negatives::default();
+    let status = panel(
+        alloc,
+        task,
+        &mut first,
+        &mut second,
+        links,
+        &mut report,
+        told,
+    );
+    (status, report)
+}
+
 // Runs a task over these links and ports, over a seed of zeros.
 pub(crate) fn run(
     alloc: Global,
@@ -196,21 +224,11 @@ pub(crate) fn run(
     requires helpers { length links.old.items ≡ 3 }
 {
     let fails = ports.first_fails.to_vec(alloc)?;
-    let mut first = MemorySource::new(ports.stream.to_vec(alloc)?, 5, fails);
+    let first = MemorySource::new(ports.stream.to_vec(alloc)?, 5, fails);
     let fails = ports.second_fails.to_vec(alloc)?;
-    let mut second = MemorySource::new(vec![in alloc; 0; ports.seed]?, 5, fails);
-    let mut report = MemorySink::new(alloc, 10_000, ports.report_fails.to_vec(alloc)?);
-    let told = &mut Negatives::default();
-    let status = panel(
-        alloc,
-        task,
-        &mut first,
-        &mut second,
-        links,
-        &mut report,
-        told,
-    );
-    Ok((status, report))
+    let second = MemorySource::new(vec![in alloc; 0; ports.seed]?, 5, fails);
+    let report = MemorySink::new(alloc, 10_000, ports.report_fails.to_vec(alloc)?);
+    Ok(run_over(alloc, task, links, first, second, report))
 }
 
 fn check(rt: &impl Abort, alloc: Global, row: &Row) -> Result<(), Fail> {

@@ -1,37 +1,29 @@
 -- The honest nodes, level by level, pass all tests and lead to the true root.
-use Rattle.std.proofs.Common.{◌≡◌, ℕ, zero, suc, ◌+◌, ◌-◌, ◌*◌, ◌^◌, ◌<◌, ◌≤◌, Bool, true, false, not, ◌==◌, ◌||◌, List, [], ◌∷◌, length, get_or, filter, map, fold, All, ℤ, pos, negsuc, ◌+ℤ◌, nat_abs, Ok, refl, sym, ap, subst, ◌∙◌, inl, inr, arith}
-use Rattle.std.specs.Prelude.{nat_lt, nat_le, int_le, ◌≤ℤ◌}
+use Rattle.std.proofs.Common.{◌≡◌, ℕ, zero, suc, ◌+◌, ◌-◌, ◌*◌, ◌^◌, ◌<◌, ◌≤◌, Bool, true, false, not, ◌==◌, ◌||◌, List, [], ◌∷◌, length, get_or, filter, map, fold, if◌then◌else◌, ◌%◌, ℤ, pos, negsuc, nat_abs, Ok, refl, sym, ap, subst, ◌∙◌, inl, inr, arith}
+use Rattle.std.specs.Prelude.{nat_lt, int_le, ◌≤ℤ◌}
 use Rattle.std.specs.List.{list_all, enumerate_from}
 use Rattle.std.proofs.Math.Nat.{pow-succ'}
-use Rattle.std.proofs.lemmas.Bool.{cases_Bool, eq-eqb, ne_eqb, lt-ltb, le-leb}
+use Rattle.std.proofs.lemmas.Bool.{and_from, cases_Bool, eq-eqb, ne_eqb, le-leb, lt-leb}
 use Rattle.std.proofs.lemmas.Bool.Decides.{leb_tells}
-use Rattle.std.proofs.lemmas.List.{length-map}
-use Rattle.std.proofs.lemmas.List.Elements.{All-head, All-tail}
+use Rattle.std.proofs.lemmas.Int.{ints}
 use Rattle.sip_vector.specs.declared.update.Entry.{Entry}
-use Rattle.sip_vector.specs.Streams.{int_sum}
-use Rattle.sip_vector.specs.Trees.{Counted, leaf, up3, augroot}
+use Rattle.sip_vector.specs.Trees.{Counted, leaf, up3}
 use Rattle.sip_vector.proofs.Filters.{as_entry}
 use Rattle.sip_vector.proofs.TreeCounted.{length-up3}
 use Rattle.sip_wire.specs.declared.message.Node.{Node}
-use Rattle.sip_heavy.specs.declared.form.LeafForm.TheVariants as forms
-use Rattle.sip_heavy.specs.AcceptsHeavy.{HeavyQuestion, width, merged, with_nodes, end_test, level_nodes, nodes_above, known_after, top_test, verdict, heavy_entries, leaves_of, is_empty}
-use Rattle.sip_heavy.specs.Honest.{Proving, begun, shown_from, honest_lists, CanBeCounted, heavy_of}
+use Rattle.sip_heavy.specs.declared.form.LeafForm.{LeafForm}
+use Rattle.sip_heavy.specs.AcceptsHeavy.{HeavyQuestion, width, merged, with_nodes, end_test, level_nodes, nodes_above, known_after, top_test, verdict, heavy_entries, leaves_of, value_of, is_empty}
+use Rattle.sip_heavy.specs.Counting.{LeafStands, LeavesStand, top_of}
+use Rattle.sip_heavy.specs.Honest.{Proving, begun_over, node_at, shown_from, honest_lists, heavy_of}
 use Rattle.sip_heavy.specs.Rising.{Rises}
+use Rattle.sip_heavy.specs.TrueNodes.{is_spot}
 use Rattle.sip_heavy.proofs.Cuts.{ltb_tells, merge_back, filter_rises, cut_apart, cut_long, cut_passes, all_pass}
 use Rattle.sip_heavy.proofs.HeavyPairs.{counts, AreCounts, numbered, children, children_rise, children_pair, children_heavy, children_within, children_few, is_sent, sent_is, is_heavy, heavy_is, above_is, above_counts, above_are}
-
--- a threshold of at least 1 that the sum of a vector reaches
-pub record CanBeFound (p depth t n : ℕ) (numbers : List ℤ) : Type 0 where
-  pub counted : CanBeCounted p depth n numbers
-  pub some : 1 ≤ t
-  pub reached : t ≤ n
-
-pub found_by : (p depth t n : ℕ) (numbers : List ℤ) → CanBeCounted p depth n numbers → 1 ≤ t → t ≤ n → CanBeFound p depth t n numbers
-found_by p depth t n numbers can some reached = record { counted = can; some = some; reached = reached }
+use Rattle.sip_heavy.proofs.Sendable.{AreCounted, are_counts}
 
 -- a level that a prover is at
-abbrev pub at : ℕ → Bool → List Counted → Proving
-at t is_leaf level = record { at_least = t; is_leaf = is_leaf; level = level }
+abbrev pub at : LeafForm → ℕ → Bool → List Counted → Proving
+at form t is_leaf level = record { form = form; at_least = t; is_leaf = is_leaf; level = level }
 
 -- what is known of a level: its children that are not sent
 abbrev pub known_of : ℕ → Bool → List Counted → List Node
@@ -95,7 +87,7 @@ left_levels d j n is = omega (arith, is)
 
 pub climbs : (p : ℕ) (q : HeavyQuestion) (r : ℕ) (challenges : List ℕ) (j : ℕ) (is_leaf : Bool) (level : List Counted) → 1 ≤ q.at_least → q.at_least ≤ q.total
     → is_leaf ≡ (j == 0) → j + suc (length challenges) ≡ q.depth → AreCounts level → counts level ≡ q.total → length level ≡ 2 ^ suc (length challenges)
-    → known_after p q j (known_of q.at_least is_leaf level) (r ∷ challenges) (honest_lists p (at q.at_least is_leaf level) (r ∷ challenges))
+    → known_after p q j (known_of q.at_least is_leaf level) (r ∷ challenges) (honest_lists p (at q.form q.at_least is_leaf level) (r ∷ challenges))
     ≡ Ok (filter (is_heavy q.at_least) (numbered 0 (fold (up3 p) level (r ∷ challenges))))
 unfolding known_after
 climbs p q r [] j is_leaf level some reached first depth are sum size =
@@ -116,43 +108,68 @@ climbs p q r (s ∷ challenges) j is_leaf level some reached first depth are sum
 
 -- ---- the leaves
 
-whole_number : (a : ℤ) → pos 0 ≤ℤ a → a ≡ pos (nat_abs a)
-whole_number (pos n) h = refl
-whole_number (negsuc n) h = absurd h.le
+-- a leaf is the node at its place
+same_spot : (p i : ℕ) (c : Counted) → is_spot p (node_at i c) (c.hash, nat_abs c.count) ≡ true
+same_spot p i c = and_from _ _ (eq-eqb (c.hash % p) (c.hash % p) refl) (eq-eqb (nat_abs c.count) (nat_abs c.count) refl)
 
-pub leaves_are : (p : ℕ) (numbers : List ℤ) → All (λ a. pos 0 ≤ℤ a) numbers → AreCounts (map (leaf p) numbers)
-leaves_are p [] strict = tt
-leaves_are p (a ∷ numbers) strict = (whole_number a (All-head (λ b. pos 0 ≤ℤ b) a numbers strict), leaves_are p numbers (All-tail (λ b. pos 0 ≤ℤ b) a numbers strict))
+reads_at : (p : ℕ) (form : LeafForm) (i : ℕ) (c : Counted) (a : ℤ) → LeafStands p form c a → value_of p form (node_at i c) ≡ a
+reads_at p form i c a stand = stand.reads (node_at i c) (same_spot p i c)
 
-pub leaves_sum : (p : ℕ) (numbers : List ℤ) → All (λ a. pos 0 ≤ℤ a) numbers → int_sum numbers ≡ pos (counts (map (leaf p) numbers))
-leaves_sum p [] strict = refl
-leaves_sum p (a ∷ numbers) strict =
-    ap (λ z. z +ℤ int_sum numbers) (whole_number a (All-head (λ b. pos 0 ≤ℤ b) a numbers strict))
-    ∙ ap (λ z. pos (nat_abs a) +ℤ z) (leaves_sum p numbers (All-tail (λ b. pos 0 ≤ℤ b) a numbers strict))
-
--- the heavy leaves are the heavy entries
-heavy_filtered : (p t : ℕ) (xs : List Node) → heavy_entries p forms.Count t (filter (is_heavy t) xs) ≡ heavy_entries p forms.Count t xs
-heavy_filtered p t [] = refl
-heavy_filtered p t (x ∷ xs) = elim (leb_tells t x.count) [
-  | inl s ↦
-      let heavy : nat_lt x.count t ≡ false = elim (ltb_tells x.count t) [ inl u ↦ absurd (omega (arith, s.1, u.1)) | inr u ↦ u.0 ] in
-      rw (heavy, s.0) (ap (λ es. (let e : Entry = record { index = x.index; value = pos x.count } in e) ∷ es) (heavy_filtered p t xs))
-  | inr s ↦
-      let light : nat_lt x.count t ≡ true = lt-ltb x.count t s.1 in
-      rw (light, s.0) (heavy_filtered p t xs)
-]
-
-pub heavy_numbers : (p t i : ℕ) (numbers : List ℤ) → All (λ a. pos 0 ≤ℤ a) numbers
-    → heavy_entries p forms.Count t (numbered i (map (leaf p) numbers)) ≡ filter (λ e. int_le (pos t) e.value) (map as_entry (enumerate_from i numbers))
-heavy_numbers p t i [] strict = refl
-heavy_numbers p t i (a ∷ numbers) strict =
-    let is = whole_number a (All-head (λ b. pos 0 ≤ℤ b) a numbers strict) in
+-- the heavy leaves are the heavy numbers
+pub heavy_numbers : (p : ℕ) (form : LeafForm) (t i : ℕ) (leaves : List Counted) (numbers : List ℤ) → LeavesStand p form leaves numbers
+    → heavy_entries p form t (numbered i leaves) ≡ filter (λ e. int_le (pos t) e.value) (map as_entry (enumerate_from i numbers))
+heavy_numbers p form t i [] [] stand = refl
+heavy_numbers p form t i [] (a ∷ numbers) stand = absurd stand
+heavy_numbers p form t i (c ∷ leaves) [] stand = absurd stand
+heavy_numbers p form t i (c ∷ leaves) (a ∷ numbers) stand =
+    let value = reads_at p form i c a stand.0 in
     let one : suc i ≡ i + 1 = omega arith in
-    let rest : heavy_entries p forms.Count t (numbered (suc i) (map (leaf p) numbers)) ≡ filter (λ e. int_le (pos t) e.value) (map as_entry (enumerate_from (i + 1) numbers)) = rw one (heavy_numbers p t (i + 1) numbers (All-tail (λ b. pos 0 ≤ℤ b) a numbers strict)) in
-    let same : int_le (pos t) a ≡ nat_le t (nat_abs a) = ap (int_le (pos t)) is in
-    elim (cases_Bool (nat_le t (nat_abs a))) [
-      | inl s ↦ rw (same, s) (rw (sym is) (ap (λ es. as_entry (i, a) ∷ es) rest))
-      | inr s ↦ rw (same, s) rest
+    let rest : heavy_entries p form t (numbered (suc i) leaves) ≡ filter (λ e. int_le (pos t) e.value) (map as_entry (enumerate_from (i + 1) numbers)) = rw one (heavy_numbers p form t (i + 1) leaves numbers stand.1) in
+    elim (cases_Bool (int_le (pos t) a)) [
+      | inl s ↦ rw (value, s) (ap (λ es. as_entry (i, a) ∷ es) rest)
+      | inr s ↦ rw (value, s) rest
+    ]
+
+not_reached : (t n : ℕ) (a c : ℤ) → c ≡ pos n → a ≤ℤ c → n < t → int_le (pos t) a ≡ false
+not_reached t n (pos k) c is within less = let order : pos k ≤ℤ pos n = subst (λ z. pos k ≤ℤ z) is within in lt-leb t k (omega (arith, ints, order, less))
+not_reached t n (negsuc k) c is within less = refl
+
+-- a light leaf stands for no heavy number
+light_leaf : (p : ℕ) (form : LeafForm) (t i : ℕ) (c : Counted) (a : ℤ) (xs : List Node) → LeafStands p form c a → nat_abs c.count < t → heavy_entries p form t (node_at i c ∷ xs) ≡ heavy_entries p form t xs
+light_leaf p form t i c a xs stand light =
+    let value = reads_at p form i c a stand in
+    let below = not_reached t stand.counts.0 a c.count stand.counts.1 stand.within (omega (arith, light, ap nat_abs stand.counts.1)) in
+    rw (value, below) refl
+
+pub none_heavy : (p : ℕ) (form : LeafForm) (t i : ℕ) (leaves : List Counted) (numbers : List ℤ) → LeavesStand p form leaves numbers → counts leaves < t → heavy_entries p form t (numbered i leaves) ≡ []
+none_heavy p form t i [] numbers stand less = refl
+none_heavy p form t i (c ∷ leaves) [] stand less = absurd stand
+none_heavy p form t i (c ∷ leaves) (a ∷ numbers) stand less =
+    light_leaf p form t i c a (numbered (suc i) leaves) stand.0 (omega (arith, less)) ∙ none_heavy p form t (suc i) leaves numbers stand.1 (omega (arith, less))
+
+same_rest : (p : ℕ) (form : LeafForm) (t : ℕ) (x : Node) (xs ys : List Node) → heavy_entries p form t xs ≡ heavy_entries p form t ys → heavy_entries p form t (x ∷ xs) ≡ heavy_entries p form t (x ∷ ys)
+same_rest p form t x xs ys same = ap (λ (es : List Entry). if int_le (pos t) (value_of p form x) then (let e : Entry = record { index = x.index; value = value_of p form x } in e) ∷ es else es) same
+
+-- those under heavy nodes state what all leaves do
+children_state : (p : ℕ) (form : LeafForm) (t m i : ℕ) (leaves : List Counted) (numbers : List ℤ) → LeavesStand p form leaves numbers → length leaves ≡ m + m
+    → heavy_entries p form t (children t i leaves) ≡ heavy_entries p form t (numbered i leaves)
+children_state p form t m i [] numbers stand even = refl
+children_state p form t m i (l ∷ []) numbers stand even = absurd (omega (arith, even))
+children_state p form t zero i (l ∷ h ∷ leaves) numbers stand even = absurd (omega (arith, even))
+children_state p form t (suc m) i (l ∷ h ∷ leaves) [] stand even = absurd stand
+children_state p form t (suc m) i (l ∷ h ∷ leaves) (a ∷ []) stand even = absurd stand.1
+children_state p form t (suc m) i (l ∷ h ∷ leaves) (a ∷ b ∷ numbers) stand even =
+    let next : suc i ≡ i + 1 = omega arith in
+    let two : suc (i + 1) ≡ i + 2 = omega arith in
+    let rest = children_state p form t m (i + 2) leaves numbers stand.1.1 (omega (arith, even)) in
+    let behind = node_at (i + 1) h ∷ numbered (i + 2) leaves in
+    elim (leb_tells t (nat_abs l.count + nat_abs h.count)) [
+      | inl s ↦
+          rw (s.0, next, two)
+          (same_rest p form t (node_at i l) (node_at (i + 1) h ∷ children t (i + 2) leaves) behind (same_rest p form t (node_at (i + 1) h) (children t (i + 2) leaves) (numbered (i + 2) leaves) rest))
+      | inr s ↦
+          rw (s.0, next, two)
+          (rest ∙ sym (light_leaf p form t i l a behind stand.0 (omega (arith, s.1)) ∙ light_leaf p form t (i + 1) h b (numbered (i + 2) leaves) stand.1.0 (omega (arith, s.1))))
     ]
 
 -- ---- the top
@@ -183,29 +200,22 @@ verdict_by p q root challenges replies top known test = rw (known, test) refl
 
 -- ---- the verdict
 
-module _ (p depth t n : ℕ) (numbers : List ℤ) (can : CanBeFound p depth t n numbers) where
+module _ (p : ℕ) (form : LeafForm) (depth t n : ℕ) (leaves : List Counted) (numbers : List ℤ) (can : AreCounted p form depth n leaves numbers) (some : 1 ≤ t) (reached : t ≤ n) where
   abbrev pub asked : HeavyQuestion
-  asked = record { form = forms.Count; depth = depth; at_least = t; total = n }
+  asked = record { form = form; depth = depth; at_least = t; total = n }
 
-  pub total_is : counts (map (leaf p) numbers) ≡ n
-  total_is = ap nat_abs (sym (leaves_sum p numbers can.counted.strict) ∙ can.counted.total)
+  pub stated : heavy_entries p form t (children t 0 leaves) ≡ heavy_of t numbers
+  stated = children_state p form t (2 ^ (depth - 1)) 0 leaves numbers can.stand (can.size ∙ two_halves depth can.levels) ∙ heavy_numbers p form t 0 leaves numbers can.stand
 
-  pub stated : heavy_entries p forms.Count t (children t 0 (map (leaf p) numbers)) ≡ heavy_of t numbers
-  stated = sym (heavy_filtered p t (children t 0 (map (leaf p) numbers)))
-      ∙ ap (heavy_entries p forms.Count t) (sym (heavy_is t (2 ^ (depth - 1)) 0 (map (leaf p) numbers) (length-map numbers (leaf p) ∙ can.counted.size ∙ two_halves depth can.counted.levels)))
-      ∙ heavy_filtered p t (numbered 0 (map (leaf p) numbers))
-      ∙ heavy_numbers p t 0 numbers can.counted.strict
-
-  pub lists_accepted : (challenges : List ℕ) → length challenges ≡ depth → verdict p asked (augroot p numbers challenges).hash challenges (honest_lists p (begun p numbers t) challenges) ≡ Ok (heavy_of t numbers)
-  lists_accepted [] size = absurd (omega (arith, size, can.counted.levels))
+  pub lists_accepted : (challenges : List ℕ) → length challenges ≡ depth → verdict p asked (top_of p leaves challenges).hash challenges (honest_lists p (begun_over form leaves t) challenges) ≡ Ok (heavy_of t numbers)
+  lists_accepted [] size = absurd (omega (arith, size, can.levels))
   lists_accepted (r ∷ challenges) size =
-      let level : List Counted = map (leaf p) numbers in
       let cs : List ℕ = r ∷ challenges in
-      let are = leaves_are p numbers can.counted.strict in
-      let long : length level ≡ 2 ^ suc (length challenges) = length-map numbers (leaf p) ∙ can.counted.size ∙ ap (λ d. 2 ^ d) (sym size) in
-      let climbed = rw (none_known t (children t 0 level)) at (climbs p asked r challenges 0 true level can.some can.reached refl (omega (arith, size)) are total_is long) in
-      let top = top_is p n cs level long are total_is in
-      let same : top.0.hash ≡ (augroot p numbers cs).hash = ap (λ (xs : List Counted). (get_or xs 0 (leaf p (pos 0))).hash) (sym top.1) in
-      verdict_by p asked (augroot p numbers cs).hash cs (honest_lists p (begun p numbers t) cs) (filter (is_heavy t) (numbered 0 (fold (up3 p) level cs))) climbed
-      (top_passes asked (augroot p numbers cs).hash top.0 (fold (up3 p) level cs) top.1 top.2 same can.reached)
+      let are = are_counts p form leaves numbers can.stand in
+      let long : length leaves ≡ 2 ^ suc (length challenges) = can.size ∙ ap (λ d. 2 ^ d) (sym size) in
+      let climbed = rw (none_known t (children t 0 leaves)) at (climbs p asked r challenges 0 true leaves some reached refl (omega (arith, size)) are can.total long) in
+      let top = top_is p n cs leaves long are can.total in
+      let same : top.0.hash ≡ (top_of p leaves cs).hash = ap (λ (xs : List Counted). (get_or xs 0 (leaf p (pos 0))).hash) (sym top.1) in
+      verdict_by p asked (top_of p leaves cs).hash cs (honest_lists p (begun_over form leaves t) cs) (filter (is_heavy t) (numbered 0 (fold (up3 p) leaves cs))) climbed
+      (top_passes asked (top_of p leaves cs).hash top.0 (fold (up3 p) leaves cs) top.1 top.2 same reached)
       ∙ ap (λ es. Ok es) stated

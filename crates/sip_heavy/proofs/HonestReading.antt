@@ -5,16 +5,19 @@ use Rattle.std.specs.List.{flat_map}
 use Rattle.std.proofs.lemmas.List.{take-append-drop, length-drop, length-take}
 use Rattle.std.proofs.lemmas.List.Concat.{flat_map-cons}
 use Rattle.std.proofs.lemmas.List.Elements.{All-take, All-drop}
+use Rattle.sip_field.specs.Moduli.{m61_modulus}
 use Rattle.sip_vector.specs.Pieces.{pieces}
 use Rattle.sip_vector.specs.Steps.{◌>>=◌, needs}
 use Rattle.sip_wire.specs.declared.kind.Place.TheVariants as places
 use Rattle.sip_wire.specs.declared.message.Leaf.{Leaf}
+use Rattle.sip_wire.specs.declared.message.Mark.{Mark}
 use Rattle.sip_wire.specs.declared.message.Message.{Message}
 use Rattle.sip_wire.specs.declared.message.Message.TheVariants as messages
 use Rattle.sip_wire.specs.declared.message.Node.{Node}
 use Rattle.sip_wire.specs.declared.message.Reason.{Reason}
 use Rattle.sip_wire.specs.declared.message.Reason.TheVariants as reasons
 use Rattle.sip_wire.specs.declared.version.Version.{Version}
+use Rattle.sip_wire.specs.declared.version.Version.TheVariants.{Two}
 use Rattle.sip_wire.specs.Spelling.{fits, kind_of, spelling}
 use Rattle.sip_wire.specs.Table.{allows}
 use Rattle.sip_wire.specs.Values.{InRange}
@@ -25,11 +28,11 @@ use Rattle.sip_replies.specs.Protocols.{Rules}
 use Rattle.sip_replies.specs.Replies.{read_reply}
 use Rattle.sip_replies.proofs.Reading.{read_reply-step}
 use Rattle.sip_heavy.specs.AcceptsHeavy.{HeavyQuestion, most_nodes, is_next, leaf_node, merged, with_nodes, end_test}
-use Rattle.sip_heavy.specs.Honest.{leaf_frames, node_frames, leaf_of}
+use Rattle.sip_heavy.specs.Honest.{leaf_frames, mark_frames, node_frames, leaf_of, mark_of}
 use Rattle.sip_heavy.specs.declared.form.LeafForm.{LeafForm}
 use Rattle.sip_heavy.specs.declared.form.LeafForm.TheVariants as forms
-use Rattle.sip_heavy.specs.Protocol.{HeavyState, leaf_nodes, leaf_place, nodes_step, ended, end_step, heavy_step, heavy_rules}
-use Rattle.sip_heavy.proofs.HonestFrames.{IsLeafRow, IsNodeRow, leaves_fit, nodes_fit, end_fits, leaf_rows}
+use Rattle.sip_heavy.specs.Protocol.{HeavyState, leaf_nodes, mark_node, mark_nodes, leaf_place, nodes_step, ended, end_step, heavy_step, heavy_rules}
+use Rattle.sip_heavy.proofs.HonestFrames.{AreMarkNodes, IsLeafRow, IsMarkRow, IsNodeRow, leaves_fit, marks_back, marks_fit, marks_range, mark_rows, nodes_fit, end_fits, leaf_rows}
 use Rattle.sip_heavy.proofs.Taking.{with_nodes-append}
 use Rattle.sip_heavy.proofs.StatedFrames.{with_received}
 
@@ -78,7 +81,7 @@ module _ (version : Version) (p : ℕ) (q : HeavyQuestion) where
     pub both : (xs ys : List X) → nodes (xs ++ ys) ≡ nodes xs ++ nodes ys
     pub fit : (xs : List X) → 0 < length xs → length xs ≤ k → All Row xs → IsTrue (fits version (frame xs))
     pub allowed : (before : List Node) (xs : List X) → IsTrue (allows (R.place (with_received s before)) (kind_of (frame xs)))
-    pub range : (xs : List X) → InRange (frame xs)
+    pub range : (xs : List X) → All Row xs → InRange (frame xs)
     pub step : (before : List Node) (xs : List X) → heavy_step p q (with_received s before) (frame xs) ≡ nodes_step q (with_received s before) (nodes xs)
 
   module _ {X : Type 0} (frame : List X → Message) (nodes : List X → List Node) (k : ℕ) (Row : X → Type 0) (s : HeavyState) (is : IsFrame frame nodes k Row s) where
@@ -86,7 +89,7 @@ module _ (version : Version) (p : ℕ) (q : HeavyQuestion) where
         → read_reply R (with_received s before) (spelling version (frame xs) ++ rest) ≡ read_reply R (with_received s (before ++ nodes xs)) rest
     frame_read before xs rest some most rows passes =
         read_reply-step R (with_received s before) (spelling version (frame xs) ++ rest) rest (frame xs) (Ok (mores.Due, with_received s (before ++ nodes xs)))
-        (read_frame-spelling version (R.place (with_received s before)) (frame xs) rest (is.fit xs some most rows) (is.allowed before xs) (is.range xs)) (is.step before xs ∙ ap (as_due (with_received s before)) passes)
+        (read_frame-spelling version (R.place (with_received s before)) (frame xs) rest (is.fit xs some most rows) (is.allowed before xs) (is.range xs rows)) (is.step before xs ∙ ap (as_due (with_received s before)) passes)
 
     -- one piece after another
     pub pieces_read : (n : ℕ) (before : List Node) (xs : List X) (tail : List Message) → n * k < length xs + k → length xs ≤ n * k → All Row xs → with_nodes q s.level s.known before (nodes xs) ≡ Ok (before ++ nodes xs)
@@ -143,7 +146,25 @@ module _ (version : Version) (p : ℕ) (q : HeavyQuestion) where
     both = leaf_nodes-append;
     fit = leaves_fit version;
     allowed = λ before xs. rw (first, form) refl;
-    range = λ xs. tt;
+    range = λ xs rows. tt;
+    step = λ before xs. rw (form, first) refl;
+  }
+
+  abbrev marks_message : List Mark → Message
+  marks_message ms = messages.Marks (record { items = ms })
+
+  mark_nodes-append : (xs ys : List Mark) → mark_nodes p (xs ++ ys) ≡ mark_nodes p xs ++ mark_nodes p ys
+  mark_nodes-append [] ys = refl
+  mark_nodes-append (x ∷ xs) ys = ap (λ zs. mark_node p x ∷ zs) (mark_nodes-append xs ys)
+
+  marks_are_frames : (s : HeavyState) → q.form ≡ forms.Mark → s.level ≡ 0 → IsFrame marks_message (mark_nodes p) 256 (IsMarkRow version) s
+  marks_are_frames s form first = record {
+    one = omega arith;
+    none = refl;
+    both = mark_nodes-append;
+    fit = marks_fit version;
+    allowed = λ before xs. rw (first, form) refl;
+    range = marks_range version;
     step = λ before xs. rw (form, first) refl;
   }
 
@@ -154,7 +175,7 @@ module _ (version : Version) (p : ℕ) (q : HeavyQuestion) where
     both = λ xs ys. refl;
     fit = nodes_fit version;
     allowed = λ before xs. rw later refl;
-    range = λ xs. tt;
+    range = λ xs rows. tt;
     step = λ before xs. rw later refl;
   }
 
@@ -164,6 +185,17 @@ module _ (version : Version) (p : ℕ) (q : HeavyQuestion) where
   leaves_read s shown form first rows whole passes ends =
       let ls = map leaf_of shown in
       pieces_read leaves_message leaf_nodes 512 (IsLeafRow version) s (leaves_are_frames s form first) ((length ls + 511) / 512) [] ls (messages.LevelEnd ∷ []) (omega arith) (omega arith) (leaf_rows version shown rows)
+      (ap (with_nodes q s.level s.known []) whole ∙ passes ∙ ap (λ xs. Ok xs) (sym whole))
+      ∙ ap (λ xs. read_reply R (with_received s xs) (flat_map (spelling version) (messages.LevelEnd ∷ []))) whole
+      ∙ end_read (with_received s shown) ends
+
+  -- reply 0 of marks
+  pub marks_read : (s : HeavyState) (shown : List Node) → version ≡ Two → p ≤ m61_modulus → q.form ≡ forms.Mark → s.level ≡ 0 → All (IsNodeRow version) shown → AreMarkNodes p shown → with_nodes q s.level s.known [] shown ≡ Ok shown
+      → end_test q s.level (merged s.known shown) ≡ Ok tt → read_reply R (with_received s []) (flat_map (spelling version) (mark_frames p shown ++ messages.LevelEnd ∷ [])) ≡ Ok (ended (with_received s shown))
+  marks_read s shown wide elements form first rows are passes ends =
+      let ms = map (mark_of p) shown in
+      let whole = marks_back p shown are in
+      pieces_read marks_message (mark_nodes p) 256 (IsMarkRow version) s (marks_are_frames s form first) ((length ms + 255) / 256) [] ms (messages.LevelEnd ∷ []) (omega arith) (omega arith) (mark_rows version wide p elements shown rows are)
       (ap (with_nodes q s.level s.known []) whole ∙ passes ∙ ap (λ xs. Ok xs) (sym whole))
       ∙ ap (λ xs. read_reply R (with_received s xs) (flat_map (spelling version) (messages.LevelEnd ∷ []))) whole
       ∙ end_read (with_received s shown) ends

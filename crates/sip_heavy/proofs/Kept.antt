@@ -1,23 +1,20 @@
 -- What holds of the nodes that a prover keeps, from level to level.
 use Rattle.std.proofs.Common.{◌≡◌, ℕ, zero, suc, ◌+◌, ◌-◌, ◌*◌, ◌/◌, ◌%◌, ◌^◌, ◌<◌, ◌≤◌, Bool, true, false, ◌==◌, ◌||◌, List, [], ◌∷◌, length, drop, All, slice_get, Option, Some, refl, sym, ap, subst, ◌∙◌, inl, inr, arith}
 use Rattle.std.specs.Prelude.{nat_lt, nat_le}
-use Rattle.std.specs.Borrow.{Bor}
-use Rattle.std.specs.Fn.{Called, ComputesKey}
-use Rattle.std.specs.List.Sorted.{IsPartitionPoint, IsPartitionedBy}
-use denote.Param.Members.{Mut}
+use Rattle.std.specs.List.Sorted.{IsPartitionPoint}
 use Rattle.std.proofs.Math.Nat.{pow-le-pow_right, mod-lt}
 use Rattle.std.proofs.lemmas.Bool.{cases_Bool}
 use Rattle.std.proofs.lemmas.Option.{none-some, same_Some}
-use Rattle.std.proofs.lemmas.List.Sorted.{IsPartitionPoint-from_clause, IsPartitionedBy-ltb}
 use Rattle.std.proofs.lemmas.List.Elements.{All-nil, All-cons, All-head, All-tail, All-append, All-filter}
 use Rattle.sip_vector.specs.Limits.{most_depth}
 use Rattle.sip_vector.specs.Trees.{up3}
 use Rattle.sip_wire.specs.declared.message.Node.{Node}
+use Rattle.sip_heavy.specs.declared.form.LeafForm.{LeafForm}
 use Rattle.sip_heavy.specs.AcceptsHeavy.{joined}
 use Rattle.sip_heavy.specs.Honest.{Proving, its_nodes, shown, shown_pair, shown_from}
 use Rattle.sip_heavy.specs.Rising.{Rises}
 use Rattle.sip_heavy.specs.Spots.{left_of, right_of, spots_above, shown_spots, from_on, whole_level, behind_place, IsKept}
-use Rattle.sip_heavy.proofs.Shown.{all_in, half_indices, halves_rise, spots_rise, same_sum, skipped_at}
+use Rattle.sip_heavy.proofs.Shown.{all_in, half_indices, spots_rise, same_sum, skipped_at}
 use Rattle.sip_heavy.proofs.Wholes.{whole_above, shown_is}
 use Rattle.sip_heavy.proofs.HonestLists.{two_halves}
 
@@ -84,16 +81,12 @@ first_of_level : (p t left : ℕ) (is_leaf : Bool) (from start : ℕ) (xs : List
 first_of_level p t left is_leaf from start xs kept level parts =
     ap (λ ys. slice_get ys 0) (skipped_at t is_leaf from start xs parts ∙ ap (from_on from) (sym (shown_of_level p t left is_leaf xs kept level)))
 
--- What a walk from the end of the earlier pairs finds is the first node that is shown. A search that tests nodes as
--- `called` says gave that end.
+-- What a walk from the end of the earlier pairs finds is the first node that is shown.
 pub first_found : (p t left : ℕ) (is_leaf : Bool) (from start : ℕ) (xs : List Node) → IsKept p t left xs → (left ≡ 0 → ⊥)
-    → {F : Type 0} {g : Mut F (Bor Node × Unit {0}) Bool} {f : F} → ((q : Node → Bool) → ComputesKey g q f → IsPartitionedBy q xs → IsPartitionPoint (λ y. q y ≡ true) (λ y. q y ≡ false) xs start)
-    → (called : (a : Bor Node × Unit {0}) (r : Bool) (next : F) → Called g f a r next → (r ≡ nat_lt (a.0.now.index / 2) (from / 2)) × (next ≡ f))
+    → IsPartitionPoint (λ y. nat_lt (y.index / 2) (from / 2) ≡ true) (λ y. nat_lt (y.index / 2) (from / 2) ≡ false) xs start
     → (found : Option Node) → found ≡ slice_get (from_on from (shown_spots t is_leaf (drop start xs))) 0
-    → (k : Proving) → ◌≡◌ {A = Proving} (record { at_least = t; is_leaf = is_leaf; level = whole_level (2 ^ left) 0 xs }) k → found ≡ slice_get (from_on from (its_nodes k)) 0
-first_found p t left is_leaf from start xs kept off clause called found is k view =
-    let parts = IsPartitionPoint-from_clause (λ (y : Node). nat_lt (y.index / 2) (from / 2)) xs start clause
-    (IsPartitionedBy-ltb (λ (y : Node). y.index / 2) xs (from / 2) (λ i j d le lt. halves_rise xs 0 (2 ^ left) i j d kept.rises le lt)) called in
+    → (form : LeafForm) (k : Proving) → ◌≡◌ {A = Proving} (record { form = form; at_least = t; is_leaf = is_leaf; level = whole_level (2 ^ left) 0 xs }) k → found ≡ slice_get (from_on from (its_nodes k)) 0
+first_found p t left is_leaf from start xs kept off parts found is form k view =
     is ∙ first_of_level p t left is_leaf from start xs kept (some_left left off) parts ∙ ap (λ (s : Proving). slice_get (from_on from (its_nodes s)) 0) view
   where
     some_left : (n : ℕ) → (n ≡ 0 → ⊥) → 1 ≤ n

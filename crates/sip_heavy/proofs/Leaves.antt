@@ -33,7 +33,7 @@ kept_strict i (a ∷ numbers) strict =
     ]
 
 module _ (p : ℕ) (some : 0 < p) where
-  leaf_zero : leaf p (pos 0) ≡ nothing
+  pub leaf_zero : leaf p (pos 0) ≡ nothing
   leaf_zero = let z : 0 % p ≡ 0 = mod-eq_of_lt some in rw z refl
 
   -- their leaves rise from the index on
@@ -51,13 +51,13 @@ module _ (p : ℕ) (some : 0 < p) where
   leaves_hashed (e ∷ es) = All-cons (λ x. x.hash < p) (leaf_of_entry p e) (map (leaf_of_entry p) es) (residue_below p e.value some) (leaves_hashed es)
 
   -- no node stands before the first
-  place_before : (i least n : ℕ) (xs : List Node) → Rises least n xs → i < least → place i xs ≡ nothing
+  pub place_before : (i least n : ℕ) (xs : List Node) → Rises least n xs → i < least → place i xs ≡ nothing
   place_before i least n [] rises less = refl
   place_before i least n (x ∷ xs) rises less =
       let off : (x.index == i) ≡ false = ne_eqb x.index i (λ e. absurd (omega (arith, e, rises.0, less))) in
       rw off refl
 
-  behind_before : (i least n : ℕ) (xs : List Node) → Rises least n xs → i < least → behind_place i xs ≡ xs
+  pub behind_before : (i least n : ℕ) (xs : List Node) → Rises least n xs → i < least → behind_place i xs ≡ xs
   behind_before i least n [] rises less = refl
   behind_before i least n (x ∷ xs) rises less =
       let off : (x.index == i) ≡ false = ne_eqb x.index i (λ e. absurd (omega (arith, e, rises.0, less))) in

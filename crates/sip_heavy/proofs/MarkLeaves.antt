@@ -8,17 +8,17 @@ use Rattle.std.proofs.lemmas.List.Elements.{recursion_from_All}
 use Rattle.sip_field.specs.Residue.{residue}
 use Rattle.sip_vector.specs.Splits.{split_leaf}
 use Rattle.sip_vector.specs.Streams.{int_sum}
-use Rattle.sip_vector.specs.Trees.{Counted}
 use Rattle.sip_vector.proofs.TreeResidues.{residue_below}
 use Rattle.sip_heavy.specs.declared.form.LeafForm.TheVariants as forms
 use Rattle.sip_heavy.specs.AcceptsHeavy.{signed}
 use Rattle.sip_heavy.specs.Counting.{LeafStands, LeavesStand, IsWeighed, AreWeighed}
+use Rattle.sip_heavy.specs.HonestMarks.{mark_leaves}
 use Rattle.sip_heavy.specs.Protocol.{count_of}
 use Rattle.sip_heavy.proofs.TrueLevels.{sum_of}
 
 -- ---- a number from its residue
 
-signed_of : (p h : ℕ) (a : ℤ) → 0 < p → nat_abs a ≤ (p - 1) / 2 → h % p ≡ residue p a → signed p h ≡ a
+pub signed_of : (p h : ℕ) (a : ℤ) → 0 < p → nat_abs a ≤ (p - 1) / 2 → h % p ≡ residue p a → signed p h ≡ a
 signed_of p h (pos n) some small is =
     let below : n < p = omega arith in
     let same : h % p ≡ n = is ∙ mod-eq_of_lt below in
@@ -33,10 +33,7 @@ signed_of p h (negsuc n) some small is =
 
 -- ---- leaves
 
-abbrev pub mark_leaves : ℕ → List ℤ → List ℤ → List Counted
-mark_leaves p values weights = map (λ x. split_leaf p x.0 x.1) (zip values weights)
-
-weight_is : (a w : ℤ) → pos (nat_abs a) ≤ℤ w → (n : ℕ) × (w ≡ pos n)
+pub weight_is : (a w : ℤ) → pos (nat_abs a) ≤ℤ w → (n : ℕ) × (w ≡ pos n)
 weight_is a (pos n) within = (n, refl)
 weight_is a (negsuc n) within = absurd (omega (arith, ints, within))
 
@@ -68,7 +65,7 @@ long_marks p (a ∷ values) [] long = absurd (omega arith)
 long_marks p (a ∷ values) (w ∷ weights) long = ap suc (long_marks p values weights (omega arith))
 
 -- the leaves' counts are the weights
-weights_of : (p : ℕ) (values weights : List ℤ) → length values ≡ length weights → map (λ c. c.count) (mark_leaves p values weights) ≡ weights
+pub weights_of : (p : ℕ) (values weights : List ℤ) → length values ≡ length weights → map (λ c. c.count) (mark_leaves p values weights) ≡ weights
 weights_of p [] [] long = refl
 weights_of p [] (w ∷ weights) long = absurd (omega arith)
 weights_of p (a ∷ values) [] long = absurd (omega arith)

@@ -1,5 +1,5 @@
 -- What is shown at an index or after it does not depend on the nodes before its pair, and what holds of a folded list.
-use Rattle.std.proofs.Common.{◌≡◌, ℕ, zero, suc, ◌+◌, ◌*◌, ◌/◌, ◌%◌, ◌<◌, ◌≤◌, Bool, true, false, ◌||◌, List, [], ◌∷◌, ◌++◌, length, get_or, take, drop, All, ltb, leb, refl, sym, ap, ◌∙◌, arith, inl, inr}
+use Rattle.std.proofs.Common.{◌≡◌, ℕ, zero, suc, ◌+◌, ◌-◌, ◌*◌, ◌/◌, ◌%◌, ◌<◌, ◌≤◌, Bool, true, false, ◌||◌, List, [], ◌∷◌, ◌++◌, length, get_or, take, drop, All, ltb, leb, refl, sym, ap, ◌∙◌, arith, inl, inr}
 use Rattle.std.specs.Prelude.{nat_lt, nat_le, sum_by}
 use Rattle.std.specs.List.{list_all}
 use Rattle.std.specs.List.{AllWithin}
@@ -212,3 +212,33 @@ skipped_at t is_leaf from n xs parts =
       | inl s ↦ s.0
       | inr s ↦ absurd (let here : ltb a b ≡ true = lt-ltb a b s.1 in cc (here, e))
     ]
+
+-- what stands for an element that is not there does not matter where it is
+same_there : (xs : List Node) (k : ℕ) (d e : Node) → k < length xs → get_or xs k d ≡ get_or xs k e
+same_there [] k d e below = absurd (omega arith)
+same_there (x ∷ xs) zero d e below = refl
+same_there (x ∷ xs) (suc k) d e below = same_there xs k d e (omega arith)
+
+-- where indices rise, the nodes on both sides of a place tell that it parts the pairs
+pub parts_here : (least n half place : ℕ) (xs : List Node) (e : Node) → Rises least n xs → place ≤ length xs
+    → (1 ≤ place → (get_or xs (place - 1) e).index / 2 < half) → (place < length xs → half ≤ (get_or xs place e).index / 2)
+    → IsPartitionPoint (λ y. nat_lt (y.index / 2) half ≡ true) (λ y. nat_lt (y.index / 2) half ≡ false) xs place
+parts_here least n half place xs e rises within before behind = (front, back)
+  where
+    below : (a b : ℕ) → a < b → nat_lt a b ≡ true
+    below a b less = lt-ltb a b less
+
+    not_below : (a b : ℕ) → b ≤ a → nat_lt a b ≡ false
+    not_below a b le = elim (leb_tells (suc a) b) [ inl s ↦ absurd (omega (arith, s.1, le)) | inr s ↦ s.0 ]
+
+    front : (k : ℕ) (d : Node) → 0 ≤ k → k < place → nat_lt ((get_or xs k d).index / 2) half ≡ true
+    front k d from to =
+        let upto = halves_rise xs least n k (place - 1) d rises (omega (arith, to)) (omega (arith, to, within)) in
+        let same = ap (λ (x : Node). x.index / 2) (same_there xs (place - 1) d e (omega (arith, to, within))) in
+        below ((get_or xs k d).index / 2) half (omega (arith, upto, same, before (omega (arith, to))))
+
+    back : (k : ℕ) (d : Node) → place ≤ k → k < length xs → nat_lt ((get_or xs k d).index / 2) half ≡ false
+    back k d from to =
+        let on = halves_rise xs least n place k d rises from to in
+        let same = ap (λ (x : Node). x.index / 2) (same_there xs place d e (omega (arith, from, to))) in
+        not_below ((get_or xs k d).index / 2) half (omega (arith, on, same, behind (omega (arith, from, to))))

@@ -1,16 +1,13 @@
 -- What a check keeps, by its fields.
 use Rattle.std.specs.Prelude.{ℕ}
-use Rattle.std.specs.declared.cmp.PartialEq.{Ghosts as Tests}
-use Rattle.sip_field.specs.declared.arithmetic.Field.{Ghosts as Field}
 use Rattle.sip_heavy.specs.Checking.{Kept}
 use Rattle.sip_heavy.specs.declared.check.HeavyCheck.TheInside.{Inside}
 
-abbrev pub kept_in : {F : Type 0} {cap : ℕ} {field : Field F} {tests : Tests F}
-    → Inside F cap field tests → Kept
+abbrev pub kept_in : {F : Type 0} {cap : ℕ} → Inside F cap → Kept
 kept_in c = record {
   form = c.form;
-  challenges = c.root.seat;
-  hash = c.root.hash;
+  challenges = c.seat;
+  hash = c.hash;
   total = c.total;
   at_least = c.at_least;
   most = c.most;

@@ -1,7 +1,8 @@
 -- A level kept by its nodes that are not zero. Only the contracts of private functions cite these
 -- definitions.
 use Rattle.std.specs.Prelude.{ℕ, zero, suc, ◌+◌, ◌-◌, ◌/◌, ◌%◌, ◌^◌, ◌<◌, ◌≤◌, ◌==◌, Bool, nat_le}
-use Rattle.std.specs.Prelude.{pos, nat_abs, List, [], ◌∷◌, ◌++◌, All, filter, sum_by, if◌then◌else◌}
+use Rattle.std.specs.Prelude.{ℤ, pos, nat_abs, List, [], ◌∷◌, ◌++◌, All, filter, sum_by}
+use Rattle.std.specs.Prelude.{if◌then◌else◌}
 use Rattle.sip_field.specs.Residue.{residue}
 use Rattle.sip_vector.specs.Limits.{most_depth}
 use Rattle.sip_vector.specs.Trees.{Counted}
@@ -79,6 +80,27 @@ whole_level (suc n) i xs = place i xs ∷ whole_level n (suc i) (behind_place i 
 -- the leaf of an entry that is not negative
 abbrev pub leaf_of_entry : ℕ → Entry → Node
 leaf_of_entry p e = record { index = e.index; hash = residue p e.value; count = nat_abs e.value }
+
+-- the mark of an entry of weights, with this value
+abbrev pub mark_of_entry : ℕ → ℤ → Entry → Node
+mark_of_entry p value e =
+    record { index = e.index; hash = residue p value; count = nat_abs e.value }
+
+-- the value at an index, of entries that begin there or later, and the entries behind it
+abbrev pub value_at : ℕ → List Entry → ℤ
+value_at i [] = pos 0
+value_at i (e ∷ es) = if e.index == i then e.value else pos 0
+
+abbrev pub behind_value : ℕ → List Entry → List Entry
+behind_value i [] = []
+behind_value i (e ∷ es) = if e.index == i then es else (e ∷ es)
+
+-- a mark for each entry of weights, with the value that stands at its index
+abbrev pub marked_entries : ℕ → List Entry → List Entry → List Node
+marked_entries p values [] = []
+marked_entries p values (e ∷ es) =
+    mark_of_entry p (value_at e.index values) e
+    ∷ marked_entries p (behind_value e.index values) es
 
 -- the nodes stand in a level of 2 ^ left places, and neither their counts nor their sum overflows
 pub record IsKept (p t left : ℕ) (spots : List Node) : Type 0 where

@@ -15,26 +15,29 @@ mod steps;
 
 use crate::form::LeafForm;
 use crate::space::HeavySpace;
-use sip_field::Field;
-use sip_tree::AugRoot;
+use sip_field::{Field, Seat};
+use sip_tree::{AugRoot, SplitRoot};
 use sip_vector::Entry;
 use sip_wire::{Node, Place, Reason};
 use std::marker::Model;
 
 /// The check of the replies to one query for heavy hitters: the entries of at least a threshold.
 ///
-/// It keeps the root and its challenges, the nodes of one level, those known of it from the level
-/// below, and what was found at the lowest: three lists in the space that it was lent. None of them
-/// grows beyond its room. Received nodes are merged with the known ones as they come, and at a
-/// level's end its pairs become the known nodes of the level above.
+/// It keeps the hash of a root and its challenges, the nodes of one level, those known of it from
+/// the level below, and what was found at the lowest: three lists in the space that it was lent.
+/// None of them grows beyond its room. Received nodes are merged with the known ones as they come,
+/// and at a level's end its pairs become the known nodes of the level above.
 ///
-/// The calls come in the order of a talk: each `leaf`, then `level_end`; for each level above a
-/// `reveal`, each `node`, and `level_end`; at last `finish`. A refusal spends the check.
+/// The calls come in the order of a talk: each `leaf`, or each `mark` where it was started by the
+/// root of a split tree, then `level_end`; for each level above a `reveal`, each `node`, and
+/// `level_end`; at last `finish`. A refusal spends the check.
 #[derive(Drop)]
 pub struct HeavyCheck<F: Field, const CAP: usize> {
     form: LeafForm,
+    // The hash of the root.
+    hash: u64,
     at_least: u64,
-    // The side's total.
+    // The sum of the leaves' counts.
     total: u64,
     // The greatest number of nodes of a level.
     most: usize,
@@ -55,7 +58,7 @@ pub struct HeavyCheck<F: Field, const CAP: usize> {
     room: usize,
     spent: bool,
     // The last field: its size depends on CAP, and those before it have short proofs so.
-    root: AugRoot<F, CAP>,
+    seat: Seat<F, CAP>,
 }
 
 impl<F: Field, const CAP: usize> Model for HeavyCheck<F, CAP> {
@@ -87,12 +90,49 @@ impl<F: Field, const CAP: usize> HeavyCheck<F, CAP> {
             HasTaken F.MODULUS asked root.now.hash root.now.seat nothing result }
         ensures begun { Begun root.now.seat space.nodes result }
     {
-        HeavyCheck::begin(root, at_least, root.total.unsigned_abs(), space)
+        let total = root.total.unsigned_abs();
+        HeavyCheck::begin(
+            LeafForm::Count,
+            &root.seat,
+            root.hash,
+            at_least,
+            total,
+            space,
+        )
     }
 
-    // The same, for a side whose total is taken to be this one. It may be below `at_least`.
+    /// The check of the entries of at least `at_least` in the vector whose split tree has this
+    /// root, in space that is lent for it. Its leaves are marks.
+    ///
+    /// No `times`: one copy of the challenges.
+    pub fn start_above(
+        root: &SplitRoot<F, CAP>,
+        at_least: u64,
+        space: HeavySpace,
+    ) -> HeavyCheck<F, CAP>
+        requires least { 1 ≤ at_least }
+        requires weight { at_least ≤ root.now.weight }
+        requires room { 2 * (root.now.weight / at_least) ≤ space.nodes }
+        ensures taken { let asked = asking forms.Mark (length root.now.seat) at_least
+            root.now.weight in
+            HasTaken F.MODULUS asked root.now.hash root.now.seat nothing result }
+        ensures begun { Begun root.now.seat space.nodes result }
+    {
+        HeavyCheck::begin(
+            LeafForm::Mark,
+            &root.seat,
+            root.hash,
+            at_least,
+            root.weight,
+            space,
+        )
+    }
+
+    // A check by leaves of this form, whose counts have this sum; it may be below `at_least`.
     pub(crate) fn begin(
-        root: &AugRoot<F, CAP>,
+        form: LeafForm,
+        seat: &Seat<F, CAP>,
+        hash: u64,
         at_least: u64,
         total: u64,
         space: HeavySpace,
@@ -100,9 +140,9 @@ impl<F: Field, const CAP: usize> HeavyCheck<F, CAP> {
         requires least { 1 ≤ at_least }
         requires small { total < 2 ^ 61 }
         requires room { 2 * (total / at_least) ≤ space.nodes }
-        ensures taken { let asked = asking forms.Count (length root.now.seat) at_least total in
-            HasTaken F.MODULUS asked root.now.hash root.now.seat nothing result }
-        ensures begun { Begun root.now.seat space.nodes result }
+        ensures taken { let asked = asking form (length seat.now) at_least total in
+            HasTaken F.MODULUS asked hash seat.now nothing result }
+        ensures begun { Begun seat.now space.nodes result }
     {
         let HeavySpace {
             nodes: room,
@@ -114,7 +154,8 @@ impl<F: Field, const CAP: usize> HeavyCheck<F, CAP> {
         level.clear();
         found.clear();
         HeavyCheck {
-            form: LeafForm::Count,
+            form,
+            hash,
             at_least,
             total,
             most: 2 * (total / at_least) as usize,
@@ -127,7 +168,7 @@ impl<F: Field, const CAP: usize> HeavyCheck<F, CAP> {
             found,
             room,
             spent: false,
-            root: copy_of(root),
+            seat: copy_of(seat),
         }
     }
 
@@ -248,7 +289,7 @@ impl<F: Field, const CAP: usize> HeavyCheck<F, CAP> {
             → HasTaken F.MODULUS q root challenges g self.new }
     {
         self.revealed += 1;
-        self.root.seat.at(self.revealed)
+        self.seat.at(self.revealed)
     }
 
     /// Ends the check: `Reason::Total` where the count of the top node is not the total, and else
@@ -349,7 +390,7 @@ impl<F: Field, const CAP: usize> HeavyCheck<F, CAP> {
         ensures exact { result ≡ length self.now.challenges }
         ensures fits { result ≤ CAP }
     {
-        self.root.seat.depth()
+        self.seat.depth()
     }
 
     // The tests of the top node.
@@ -359,17 +400,15 @@ impl<F: Field, const CAP: usize> HeavyCheck<F, CAP> {
         match self.known.first() {
             None => Err(Reason::Pairs),
             Some(top) if top.count != self.total => Err(Reason::Total),
-            Some(top) if top.hash != self.root.hash => Err(Reason::Root),
+            Some(top) if top.hash != self.hash => Err(Reason::Root),
             Some(_) => Ok(()),
         }
     }
 }
 
-// The same root, once more.
-fn copy_of<F: Field, const CAP: usize>(root: &AugRoot<F, CAP>) -> AugRoot<F, CAP>
-    ensures seat { result.seat ≡ root.now.seat }
-    ensures hash { result.hash ≡ root.now.hash }
-    ensures total { result.total ≡ root.now.total }
+// The same challenges, once more.
+fn copy_of<F: Field, const CAP: usize>(seat: &Seat<F, CAP>) -> Seat<F, CAP>
+    ensures { result ≡ seat.now }
 {
-    AugRoot::of(root.seat.clone().unwrap(), root.hash, root.total)
+    seat.clone().unwrap()
 }

@@ -10,28 +10,31 @@ ghost use Rattle.sip_vector.specs.declared.update.Update.{Update as AnyUpdate};
 ghost use Rattle.sip_vector.specs.Answers.{answer, pairs};
 ghost use Rattle.sip_vector.specs.Examples.{four};
 ghost use Rattle.sip_vector.specs.Streams.{int_sum, total, vector, IsLegal, IsStrict};
-ghost use Rattle.sip_vector.specs.Trees.{augroot};
+ghost use Rattle.sip_vector.specs.Trees.{augroot, Counted};
 ghost use Rattle.sip_wire.specs.declared.message.Node.{Node};
 ghost use Rattle.sip_wire.specs.Spelling.{fits};
 ghost use Rattle.sip_wire.specs.Versions.{deepest};
 ghost use Rattle.sip_wire.specs.declared.version.Version.{Version};
 ghost use Rattle.sip_wire.specs.declared.version.Version.TheVariants.{One, Two};
 ghost use Rattle.sip_replies.specs.Replies.{IsAccepted, IsUnfinished};
+ghost use Rattle.sip_heavy.specs.declared.form.LeafForm.{LeafForm};
 ghost use Rattle.sip_heavy.specs.declared.form.LeafForm.TheVariants as forms;
 ghost use Rattle.sip_heavy.specs.AcceptsHeavy.{asking, verdict};
-ghost use Rattle.sip_heavy.specs.Honest.{Proving, begun, learnt, proving, its_nodes, honest_lists};
+ghost use Rattle.sip_heavy.specs.Honest.{Proving, begun, begun_over, learnt, proving_over};
+ghost use Rattle.sip_heavy.specs.Honest.{its_nodes, honest_lists};
 ghost use Rattle.sip_heavy.specs.Honest.{honest_messages, honest_reply, honest_replies, heavy_of};
 ghost use Rattle.sip_heavy.specs.Honest.{CanBeCounted, CanBeSent};
 ghost use Rattle.sip_heavy.specs.HonestExamples.{level_end, reply_0, reply_1};
 ghost use Rattle.sip_heavy.specs.Protocol.{heavy_asked, heavy_protocol, heavy_rules};
 
-/// A prover that learns the challenges one after another comes to the levels of the augmented tree
-/// that they lead to.
+/// A prover that learns the challenges one after another comes to the levels over its leaves that
+/// they lead to, whatever leaves have.
 pub fn provers_go_up()
-    ensures begun { (p : ℕ) (numbers : List ℤ) (t : ℕ)
-        → proving p numbers t [] ≡ begun p numbers t }
-    ensures learnt { (p : ℕ) (numbers : List ℤ) (t : ℕ) (prefix : List ℕ) (r : ℕ)
-        → proving p numbers t (prefix ++ r ∷ []) ≡ learnt p (proving p numbers t prefix) r }
+    ensures begun { (p : ℕ) (form : LeafForm) (leaves : List Counted) (t : ℕ)
+        → proving_over p form leaves t [] ≡ begun_over form leaves t }
+    ensures learnt { (p : ℕ) (form : LeafForm) (leaves : List Counted) (t : ℕ) (prefix : List ℕ)
+        (r : ℕ) → proving_over p form leaves t (prefix ++ r ∷ [])
+        ≡ learnt p (proving_over p form leaves t prefix) r }
 {}
 
 /// The first node that is shown of a level, and then those after it, are all of them: so a walk

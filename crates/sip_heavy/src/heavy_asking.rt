@@ -7,14 +7,15 @@ ghost use Rattle.sip_wire.specs.declared.version.Version.{Version};
 ghost use Rattle.sip_replies.specs.Protocols.{Begins};
 ghost use Rattle.sip_heavy.specs.Asking.{HeavyStands, phase_of};
 ghost use Rattle.sip_heavy.specs.Checking.{Advances, Takes};
-ghost use Rattle.sip_heavy.specs.Protocol.{count_of, heavy_asked, leaf_nodes, mark_nodes};
-ghost use Rattle.sip_heavy.specs.Protocol.{nothing_came};
+ghost use Rattle.sip_heavy.specs.Protocol.{above_asked, count_of, heavy_asked, leaf_nodes};
+ghost use Rattle.sip_heavy.specs.Protocol.{mark_nodes, nothing_came};
 
 use crate::check::HeavyCheck;
+use crate::form::LeafForm;
 use crate::space::HeavySpace;
 use sip_field::{Field, M61};
 use sip_replies::{Check, More, Said};
-use sip_tree::AugRoot;
+use sip_tree::{AugRoot, SplitRoot};
 use sip_vector::{CAP, Entry};
 use sip_wire::{Leaf, Mark, Message, Node, Place, Reason};
 use std::marker::Model;
@@ -57,7 +58,43 @@ impl HeavyAsking {
     {
         let _depth = root.seat.depth();
         HeavyAsking {
-            check: HeavyCheck::begin(root, at_least, count_of(root.total), space),
+            check: HeavyCheck::begin(
+                LeafForm::Count,
+                &root.seat,
+                root.hash,
+                at_least,
+                count_of(root.total),
+                space,
+            ),
+        }
+    }
+
+    /// The check of the entries of at least `at_least` in the vector whose split tree has this
+    /// root, whatever the version of the replies, in space that is lent for it. Its leaves are
+    /// marks, and entries may be below 0.
+    ///
+    /// No `times`: one copy of the challenges.
+    pub fn start_above(root: &SplitRoot<M61, CAP>, at_least: u64, space: HeavySpace) -> HeavyAsking
+        requires least { 1 ≤ at_least }
+        requires room { 2 * (root.now.weight / at_least) ≤ space.nodes }
+        ensures stands { (version : Version) (places : List AnyEntry)
+            → 2 * (root.now.weight / at_least) ≤ length places
+            → HeavyStands (above_asked version m61_modulus root.now.hash root.now.weight
+            (length root.now.seat) at_least) nothing_came result places }
+        ensures begins { Begins (phase_of result) }
+        ensures block { (phase_of result).block ≡ root.now.seat }
+        ensures room { result.room ≡ space.nodes }
+    {
+        let _depth = root.seat.depth();
+        HeavyAsking {
+            check: HeavyCheck::begin(
+                LeafForm::Mark,
+                &root.seat,
+                root.hash,
+                at_least,
+                root.weight,
+                space,
+            ),
         }
     }
 

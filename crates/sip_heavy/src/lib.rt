@@ -3,6 +3,10 @@
 //! with counts of which the heavy nodes and their siblings are shown, is that of Cormode, Thaler
 //! and Yi (PVLDB 5(1)); the hash and the tests at each level are this project's own.
 //!
+//! Entries below 0 would hide others in such a sum. Where there may be some, a leaf is a mark: an
+//! entry and a weight, which is at least its size, and nodes have the sum of the weights below
+//! them. The check and the proof of its count are the same, over what a leaf has.
+//!
 //! The helper shows, from the leaves up, both children of each node whose count reaches the
 //! threshold. Known nodes are those that follow from the level below by its challenge; those that a
 //! helper shows beside them are light, so no heavy leaf can hide below one. In the end one node is
@@ -28,7 +32,8 @@
 //!   nodes are cut into frames. Accepted replies are the bytes of such frames ([`laws`]).
 //! - A prover shows what an honest helper shows of the true augmented tree, level by level. The
 //!   honest replies about a vector without negative numbers have spellings, have no fault while
-//!   they come, and are accepted with its heavy entries ([`completeness`]).
+//!   they come, and are accepted with its heavy entries ([`completeness`]); so are those with marks
+//!   about any vector ([`marks`]).
 //!
 //! # The definitions to read
 //!
@@ -39,7 +44,7 @@
 //! | `Stating` | the bytes that state nodes |
 //! | `Checking`, `Asking` | what a check keeps, and what it stands for |
 //! | `Rising` | lists of nodes whose indices rise |
-//! | `Honest` | the nodes and the replies of an honest helper |
+//! | `Honest`, `HonestMarks` | the nodes and the replies of an honest helper |
 //!
 //! # Cost
 //!
@@ -48,11 +53,11 @@
 //!
 //! | Call | `times` |
 //! |---|---|
-//! | `HeavyCheck::start`, `HeavyAsking::start` | 0, and one copy of the challenges |
-//! | `HeavyCheck::leaf`, `HeavyCheck::node` | 0; over a level, time linear in its nodes |
+//! | `start` and `start_above` of either check | 0, and one copy of the challenges |
+//! | `HeavyCheck::leaf`, `mark` and `node` | 0; over a level, time linear in its nodes |
 //! | `HeavyCheck::level_end` | 1, and 3 for each pair of the level |
 //! | `HeavyCheck::reveal`, `HeavyCheck::finish`, `into_space` | 0 |
-//! | `HeavyProver::start`, `HeavyProver::next_node` | 0 |
+//! | `HeavyProver::start`, `start_above` and `next_node` | 0 |
 //! | `HeavyProver::learn` | 1, and 1 to 3 for each node above that is not zero |
 //!
 //! A level has at most 2·floor(n / T) nodes for a total n and a threshold T. A prover over m
@@ -76,6 +81,7 @@ pub use space::HeavySpace;
 
 // The honest side.
 pub mod completeness;
+pub mod marks;
 mod prover;
 mod spots;
 

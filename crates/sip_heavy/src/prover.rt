@@ -1,19 +1,23 @@
 //! The honest side of a check: what is shown of each level.
 
-ghost use Rattle.std.specs.Prelude.{◌≡◌, ◌*◌, ◌^◌, ◌<◌, ◌≤◌, ◌↔◌, pos, ◌≤ℤ◌, nat_le, All, filter};
+ghost use Rattle.std.specs.Prelude.{◌≡◌, ◌*◌, ◌^◌, ◌<◌, ◌≤◌, ◌↔◌, pos, ◌≤ℤ◌, nat_abs, nat_le};
+ghost use Rattle.std.specs.Prelude.{All, filter};
 ghost use Rattle.std.specs.Prelude.{length, slice_get, IfOk, IfSome};
+ghost use Rattle.std.specs.List.{zip};
 ghost use Rattle.std.specs.Option.{option_map};
 ghost use Rattle.sip_vector.specs.Limits.{most_depth};
 ghost use Rattle.sip_heavy.specs.Honest.{begun, learnt, its_nodes, node_of};
+ghost use Rattle.sip_heavy.specs.HonestMarks.{begun_above};
 
-use crate::spots::{first_shown, fold_spots, leaves_of};
+use crate::form::LeafForm;
+use crate::spots::{first_shown, fold_spots, leaves_of, marks_of, place_of};
 use sip_field::{Field, OutOfMemory};
 use sip_vector::Vector;
 use sip_wire::Node;
 use std::alloc::Global;
 use std::marker::{Model, PhantomData};
 
-/// A node of a level, or a leaf: its index, its hash and its count.
+/// A node of a level, or a leaf: its index, its hash and its count. A mark's count is its weight.
 #[derive(Clone, Copy, Debug, PartialEq, Eq)]
 pub struct HeavyNode<F> {
     /// Its place in its level, from 0.
@@ -32,6 +36,7 @@ pub struct HeavyNode<F> {
 /// that of Cormode, Thaler and Yi (PVLDB 5(1)).
 #[derive(Drop)]
 pub struct HeavyProver<F: Field> {
+    form: LeafForm,
     at_least: u64,
     // Whether the level is the lowest.
     is_leaf: bool,
@@ -48,6 +53,7 @@ impl<F: Field> Model for HeavyProver<F> {
     ghost Value = { Proving };
 
     ghost view = { λ s. record {
+      form = s.form;
       at_least = s.at_least;
       is_leaf = s.is_leaf;
       level = whole_level (2 ^ s.levels_left) 0 s.spots.items;
@@ -75,12 +81,51 @@ impl<F: Field> HeavyProver<F> {
         // The proof wants the bound of the numbers.
         let _ = vector.weight();
         Ok(HeavyProver {
+            form: LeafForm::Count,
             at_least,
             is_leaf: true,
             levels_left: vector.depth().get(),
             spots,
             field: PhantomData,
         })
+    }
+
+    /// Begins at the marks over a vector of values and one of their weights, none of which is below
+    /// the size of its value. It takes memory for the weights that are not 0; no later call takes
+    /// any. O(m), and slower where additions are pending in a vector.
+    pub fn start_above(
+        alloc: Global,
+        values: &Vector,
+        weights: &Vector,
+        at_least: u64,
+    ) -> Result<HeavyProver<F>, OutOfMemory>
+        requires depth { values.now.depth ≡ weights.now.depth }
+        requires weighed { All (λ x. pos (nat_abs x.0) ≤ℤ x.1)
+            (zip values.now.numbers weights.now.numbers) }
+        requires some { 1 ≤ at_least }
+        ensures begun { IfOk result (λ prover. prover
+            ≡ begun_above F.MODULUS values.now.numbers weights.now.numbers at_least) }
+        ensures length { IfOk result (λ prover. length prover.level ≡ 2 ^ values.now.depth) }
+    {
+        let spots = marks_of::<F>(alloc, values, weights)?;
+        // The proof wants the bound of the weights, and how many values there are.
+        let _ = weights.weight();
+        let _ = values.depth();
+        Ok(HeavyProver {
+            form: LeafForm::Mark,
+            at_least,
+            is_leaf: true,
+            levels_left: weights.depth().get(),
+            spots,
+            field: PhantomData,
+        })
+    }
+
+    /// What leaves have: they are counts, or marks.
+    pub fn form(&self) -> LeafForm
+        ensures { result ≡ self.now.form }
+    {
+        self.form
     }
 
     /// How many levels are left below the root, the present one among them: each has nodes to show
@@ -96,9 +141,11 @@ impl<F: Field> HeavyProver<F> {
     /// The first node that is shown of the level, at `from` or after it; `None` where there is
     /// none, as at the root.
     ///
-    /// A search of O(log m), and a walk over the nodes up to the one that is found, without memory.
-    /// So a level costs O(m), and a search for each node that is shown.
-    pub fn next_node(&self, from: u64) -> Option<HeavyNode<F>>
+    /// A walk over the nodes up to the one that is found, without memory, from a place that `near`
+    /// tells or else a search of O(log m) finds. `near` may be any number, and tells the place for
+    /// the index behind the node then: whoever goes from node to node begins at 0, and a level
+    /// costs O(m).
+    pub fn next_node(&self, near: &mut usize, from: u64) -> Option<HeavyNode<F>>
         ensures first { option_map (node_of F.number) result
             ≡ slice_get (filter (λ x. nat_le from x.index) (its_nodes self.now)) 0 }
         ensures within { IfSome result (λ node. node.index < length self.now.level) }
@@ -106,8 +153,8 @@ impl<F: Field> HeavyProver<F> {
         if self.levels_left == 0 {
             return None;
         }
-        let start = self.spots.partition_point(|spot| spot.index / 2 < from / 2);
-        let node = first_shown(&self.spots, start, self.at_least, self.is_leaf, from)?;
+        let start = place_of(&self.spots, *near, from);
+        let node = first_shown(&self.spots, start, self.at_least, self.is_leaf, from, near)?;
         Some(HeavyNode {
             index: node.index,
             hash: F::of(node.hash),

@@ -1,8 +1,9 @@
 //! A level kept by its nodes that are not zero.
 
 ghost use Rattle.std.specs.Prelude.{◌≡◌, ℕ, ◌/◌, ◌^◌, ◌<◌, ◌≤◌, pos, ◌≤ℤ◌, All, length, map, drop};
-ghost use Rattle.std.specs.Prelude.{◌∷◌, ◌++◌, slice_get, IfOk};
+ghost use Rattle.std.specs.Prelude.{◌∷◌, ◌++◌, slice_get, nat_lt, true, false, IfOk, IsTrue};
 ghost use Rattle.std.specs.Prelude.{Bool as AnyBool};
+ghost use Rattle.std.specs.List.Sorted.{IsPartitionPoint};
 ghost use Rattle.sip_field.specs.Residue.{product_mod};
 ghost use Rattle.sip_vector.specs.Vectors.{nonzero};
 ghost use Rattle.sip_heavy.specs.AcceptsHeavy as heavy;
@@ -45,6 +46,86 @@ fn listed<F: Field>(alloc: Global, entries: &[Entry]) -> Result<Vec<Node>, OutOf
         })?;
     }
     Ok(spots)
+}
+
+// The marks over the weights that are not 0, each with its value. O(m), and slower where additions
+// are pending in a vector.
+pub(crate) fn marks_of<F: Field>(
+    alloc: Global,
+    values: &Vector,
+    weights: &Vector,
+) -> Result<Vec<Node>, OutOfMemory>
+    ensures { IfOk result (λ spots. spots.items ≡ spots_of.marked_entries F.MODULUS
+        (nonzero values.now.numbers) (nonzero weights.now.numbers)) }
+{
+    if let Some(entries) = values.entries() {
+        return marks_with::<F>(alloc, entries, weights);
+    }
+    let entries = values.entries_with_pending(alloc)?;
+    marks_with::<F>(alloc, &entries, weights)
+}
+
+// The same, where the values that are not 0 are these.
+fn marks_with<F: Field>(
+    alloc: Global,
+    values: &[Entry],
+    weights: &Vector,
+) -> Result<Vec<Node>, OutOfMemory>
+    ensures { IfOk result (λ spots. spots.items ≡ spots_of.marked_entries F.MODULUS
+        values.now (nonzero weights.now.numbers)) }
+{
+    if let Some(entries) = weights.entries() {
+        return marked::<F>(alloc, values, entries);
+    }
+    let entries = weights.entries_with_pending(alloc)?;
+    marked::<F>(alloc, values, &entries)
+}
+
+// The marks of these weights, by one walk over both lists.
+fn marked<F: Field>(
+    alloc: Global,
+    values: &[Entry],
+    weights: &[Entry],
+) -> Result<Vec<Node>, OutOfMemory>
+    ensures { IfOk result (λ spots. spots.items
+        ≡ spots_of.marked_entries F.MODULUS values.now weights.now) }
+{
+    let mut spots = Vec::with_capacity(alloc, weights.len())?;
+    let mut rest = values;
+    for weight in weights {
+        let found = value_at(rest, weight.index);
+        rest = found.behind;
+        spots.push(Node {
+            index: weight.index,
+            hash: F::of_signed(found.value).number(),
+            count: weight.value.unsigned_abs(),
+        })?;
+    }
+    Ok(spots)
+}
+
+// The value at an index, and the entries behind it.
+#[derive(Clone, Copy)]
+struct Found<'a> {
+    value: i64,
+    behind: &'a [Entry],
+}
+
+// The value at an index where the first of these entries stands there, and else 0.
+fn value_at(values: &[Entry], index: u64) -> Found<'_>
+    ensures value { result.value ≡ spots_of.value_at index values.now }
+    ensures behind { result.behind.now ≡ spots_of.behind_value index values.now }
+{
+    match values {
+        [first, behind @ ..] if first.index == index => Found {
+            value: first.value,
+            behind,
+        },
+        _ => Found {
+            value: 0,
+            behind: values,
+        },
+    }
 }
 
 // Two siblings of which one at least is not zero, and how many nodes of a list they are.
@@ -240,13 +321,46 @@ fn pass_light(spots: &[Node], from: usize, at_least: u64) -> usize
     place
 }
 
-// The first node that is shown of those at `start` and behind it, at an index or after it.
+// Whether this place parts the pairs before that of an index from the others.
+fn parts_pairs(spots: &[Node], place: usize, from: u64) -> bool
+    requires rises { (least n : ℕ) × Rises least n spots.now }
+    ensures within { IsTrue result → place ≤ length spots.now }
+    ensures parts { IsTrue result
+        → IsPartitionPoint (λ x. nat_lt (x.index / 2) (from / 2) ≡ true)
+        (λ x. nat_lt (x.index / 2) (from / 2) ≡ false) spots.now place }
+{
+    if place > spots.len() {
+        return false;
+    }
+    if place > 0 && spots[place - 1].index / 2 >= from / 2 {
+        return false;
+    }
+    place == spots.len() || spots[place].index / 2 >= from / 2
+}
+
+// The place that parts the pairs before that of an index from the others: `near` where it does, and
+// else by a search of O(log m).
+pub(crate) fn place_of(spots: &[Node], near: usize, from: u64) -> usize
+    requires rises { (least n : ℕ) × Rises least n spots.now }
+    ensures within { result ≤ length spots.now }
+    ensures parts { IsPartitionPoint (λ x. nat_lt (x.index / 2) (from / 2) ≡ true)
+        (λ x. nat_lt (x.index / 2) (from / 2) ≡ false) spots.now result }
+{
+    if parts_pairs(spots, near, from) {
+        return near;
+    }
+    spots.partition_point(|spot| spot.index / 2 < from / 2)
+}
+
+// The first node that is shown of those at `start` and behind it, at an index or after it. `near`
+// then tells the place that parts the pairs before that of the index behind the node.
 pub(crate) fn first_shown(
     spots: &[Node],
     start: usize,
     at_least: u64,
     is_leaf: bool,
     from: u64,
+    near: &mut usize,
 ) -> Option<Node>
     requires small { All (λ x. x.index < 2 ^ 48) spots.now }
     requires light { All (λ x. x.count < 2 ^ 61) spots.now }
@@ -259,6 +373,11 @@ pub(crate) fn first_shown(
     while read < spots.len() {
         let pair = first_pair(&spots[read..]);
         if let Some(node) = shown_of(pair, at_least, is_leaf, from) {
+            *near = if node.index % 2 == 0 {
+                read
+            } else {
+                read + pair.spots
+            };
             return Some(node);
         }
         read = pass_light(spots, read + pair.spots, at_least);

@@ -27,7 +27,8 @@ fn next_leaves(prover: &HeavyProver<M61>, from: u64) -> (ArrayVec<Leaf, MOST_ROW
     let _ = prover.levels_left();
     let mut rows = ArrayVec::new();
     let mut next = from;
-    while let Some(node) = prover.next_node(next) {
+    let mut near = 0;
+    while let Some(node) = prover.next_node(&mut near, next) {
         if rows.is_full() {
             return (rows, next);
         }
@@ -52,7 +53,8 @@ fn next_nodes(prover: &HeavyProver<M61>, from: u64) -> (ArrayVec<Node, MOST_NODE
     let _ = prover.levels_left();
     let mut rows = ArrayVec::new();
     let mut next = from;
-    while let Some(node) = prover.next_node(next) {
+    let mut near = 0;
+    while let Some(node) = prover.next_node(&mut near, next) {
         if rows.is_full() {
             return (rows, next);
         }

@@ -11,6 +11,7 @@ use Rattle.sip_words.specs.Shapes.{IsDepth, IsStoredWord}
 use Rattle.sip_words.specs.Words.{word}
 use Rattle.sip_words.proofs.Decimals.{digits}
 use Rattle.sip_words.proofs.QueryWords.{same_parts}
+use Rattle.sip_words.proofs.Refusals.{one_at_most}
 use Rattle.sip_words.proofs.Stopping.{depth_once}
 use Rattle.sip_words.proofs.StreamWords.{stored_once}
 use Rattle.sip_keeping.specs.declared.command.SketchCommand.{SketchCommand}
@@ -42,14 +43,7 @@ module _ {C : Type 0} (Says : C → List (List ℕ) → Type 0) where
 
   -- words are refused at one number at most
   pub refused_once : (words : List (List ℕ)) (m n : ℕ) → AreRefusedAt Says words m → AreRefusedAt Says words n → m ≡ n
-  refused_once words m n first second =
-      elim (cases_lt m n) [
-        | inl less ↦ absurd (refused_before words m n less first second)
-        | inr least ↦ elim (cases_lt n m) [
-          | inl more ↦ absurd (refused_before words n m more second first)
-          | inr most ↦ omega arith
-        ]
-      ]
+  refused_once words = one_at_most (AreRefusedAt Says words) (refused_before words)
 
   -- words of a command are refused at no number
   pub spelled_not_refused : (words : List (List ℕ)) (c : C) (n : ℕ) → Says c words → AreRefusedAt Says words n → ⊥

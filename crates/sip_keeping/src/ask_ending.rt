@@ -6,9 +6,9 @@ ghost use Rattle.sip_ports.specs.Ports.{HasCause, SendsWhole};
 ghost use Rattle.sip_keeping.specs.AskEndings.{as_kept, as_run, ask_line, code_of_ask, held_text};
 ghost use Rattle.sip_keeping.specs.AskEndings.{line_of_ask};
 
-use crate::ending::{ROOM, finish_sketch, numbered, plain};
+use crate::ending::finish_sketch;
 use arrayvec::ArrayVec;
-use sip_advice::{Ending, finish};
+use sip_advice::{Ending, STATUS_ROOM, finish, numbered_line, plain_line};
 use sip_ask::{AskPort, AskStatus};
 use sip_ports::{Sink, write_whole};
 use sip_sketch::{SketchPort, SketchStatus};
@@ -64,8 +64,8 @@ pub fn kept_status(status: &AskStatus) -> Option<SketchStatus>
 }
 
 // Adds what is held of a stream.
-fn put_held(gathered: &mut ArrayVec<u8, ROOM>, held: &Held)
-    requires { array_vec_len gathered.old + 79 ≤ ROOM }
+fn put_held(gathered: &mut ArrayVec<u8, STATUS_ROOM>, held: &Held)
+    requires { array_vec_len gathered.old + 79 ≤ STATUS_ROOM }
     ensures items { gathered.new.items ≡ gathered.old.items ++ held_text held.now }
     ensures len { array_vec_len gathered.new ≤ array_vec_len gathered.old + 79 }
 {
@@ -82,7 +82,7 @@ fn put_held(gathered: &mut ArrayVec<u8, ROOM>, held: &Held)
 }
 
 // The line of a helper that holds another stream.
-fn out_of_step(held: &Held, kept: &Held) -> ArrayVec<u8, ROOM>
+fn out_of_step(held: &Held, kept: &Held) -> ArrayVec<u8, STATUS_ROOM>
     ensures { result.items ≡ ask_line (AskStatus.OutOfStep held.now kept.now) }
 {
     let mut gathered = ArrayVec::new();
@@ -95,16 +95,24 @@ fn out_of_step(held: &Held, kept: &Held) -> ArrayVec<u8, ROOM>
 }
 
 // The line of a status that no other command has.
-fn line_of(status: &AskStatus) -> ArrayVec<u8, ROOM>
+fn line_of(status: &AskStatus) -> ArrayVec<u8, STATUS_ROOM>
     ensures { result.items ≡ ask_line status.now }
 {
     match status {
-        AskStatus::NotWhole => plain(b"sip: sketch is not whole"),
-        AskStatus::Unfit { query } => numbered(b"sip: query ", *query as u64, b" does not fit"),
+        AskStatus::NotWhole => plain_line(b"sip: sketch is not whole"),
+        AskStatus::Unfit { query } => numbered_line(
+            b"sip: query ",
+            *query as u64,
+            b" does not fit",
+        ),
         AskStatus::Signed { query } => {
-            numbered(b"sip: query ", *query as u64, b" on a side with negatives")
+            numbered_line(b"sip: query ", *query as u64, b" on a side with negatives")
         }
-        AskStatus::NoSeat { query } => numbered(b"sip: no seat for query ", *query as u64, b""),
+        AskStatus::NoSeat { query } => numbered_line(
+            b"sip: no seat for query ",
+            *query as u64,
+            b"",
+        ),
         AskStatus::OutOfStep { held, kept } => out_of_step(held, kept),
         AskStatus::Accepted
         | AskStatus::Rejected { .. }

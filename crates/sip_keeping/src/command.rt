@@ -5,14 +5,14 @@ ghost use Rattle.sip_words.specs.Words.{word};
 ghost use Rattle.sip_keeping.specs.Words.{IsRefusedAt, Spells, verb_word};
 ghost use Rattle.sip_keeping.specs.inside.SoFar.{AreNamesTo};
 
-use crate::one_word::{count_at, depth_at, form_at, has_name, part_at};
+use crate::one_word::{count_at, form_at, has_name, part_at};
 use crate::seats::{MOST_SEATS, read_seats};
 use crate::verb::{SketchVerb, sketch_verb};
 use arrayvec::ArrayVec;
 use sip_sketch::SeatKind;
 use sip_stream::Form;
 use sip_vector::Depth;
-use sip_words::{Usage, Words};
+use sip_words::{Usage, Words, read_depth};
 
 /// What the program is to do to a sketch.
 #[derive(Drop)]
@@ -57,7 +57,7 @@ fn read_begin(words: &Words) -> Result<SketchCommand, Usage>
     if !has_name(words, 2) {
         return Err(Usage { word: 2 });
     }
-    let Some(depth) = depth_at(words, 3) else {
+    let Some(depth) = read_depth(words, 3) else {
         return Err(Usage { word: 3 });
     };
     let Some((part, parts)) = part_at(words, 4) else {

@@ -1,21 +1,18 @@
 //! How a command that keeps a sketch ends: its exit code, and the line of its status.
 
-ghost use Rattle.std.specs.Prelude.{◌≡◌, ◌+◌, ◌≤◌, ◌++◌, ◌∷◌, [], length, decimal};
+ghost use Rattle.std.specs.Prelude.{◌≡◌, ◌+◌, ◌≤◌, ◌++◌, ◌∷◌, [], length};
 ghost use Rattle.arrayvec.specs.ArrayVec.{array_vec_len};
 ghost use Rattle.sip_ports.specs.Ports.{HasCause, SendsWhole};
 ghost use Rattle.sip_keeping.specs.Endings.{bad_file, bad_start, code_of_sketch, line_of_sketch};
 ghost use Rattle.sip_keeping.specs.Endings.{own_code, own_line, port_name, shared, unlike_name};
 
 use arrayvec::ArrayVec;
-use sip_advice::{Ending, finish};
+use sip_advice::{Ending, STATUS_ROOM, finish, numbered_line, plain_line};
 use sip_ports::{Sink, write_whole};
 use sip_sketch::{SketchPort, SketchStatus, Unlike};
 use sip_stream::text::{put, put_number};
 use sip_vector::Side;
 use sip_verifier::{Port, Status};
-
-/// No line is longer.
-pub(crate) const ROOM: usize = 192;
 
 /// The status of a command without a sketch that says the same, where there is one.
 pub fn shared_status(status: &SketchStatus) -> Option<Status>
@@ -41,8 +38,8 @@ pub fn shared_status(status: &SketchStatus) -> Option<Status>
 }
 
 // Adds the name of why a part is not added.
-fn put_unlike(gathered: &mut ArrayVec<u8, ROOM>, why: Unlike)
-    requires { array_vec_len gathered.old + 16 ≤ ROOM }
+fn put_unlike(gathered: &mut ArrayVec<u8, STATUS_ROOM>, why: Unlike)
+    requires { array_vec_len gathered.old + 16 ≤ STATUS_ROOM }
     ensures items { gathered.new.items ≡ gathered.old.items ++ unlike_name why }
     ensures len { array_vec_len gathered.new ≤ array_vec_len gathered.old + 16 }
 {
@@ -59,8 +56,8 @@ fn put_unlike(gathered: &mut ArrayVec<u8, ROOM>, why: Unlike)
 }
 
 // Adds the name of a part.
-fn put_part(gathered: &mut ArrayVec<u8, ROOM>, part: u32)
-    requires { array_vec_len gathered.old + 32 ≤ ROOM }
+fn put_part(gathered: &mut ArrayVec<u8, STATUS_ROOM>, part: u32)
+    requires { array_vec_len gathered.old + 32 ≤ STATUS_ROOM }
     ensures items { gathered.new.items ≡ gathered.old.items ++ port_name (SketchPort.Part part) }
     ensures len { array_vec_len gathered.new ≤ array_vec_len gathered.old + 32 }
 {
@@ -69,8 +66,8 @@ fn put_part(gathered: &mut ArrayVec<u8, ROOM>, part: u32)
 }
 
 // Adds the name of a port.
-fn put_port(gathered: &mut ArrayVec<u8, ROOM>, port: SketchPort)
-    requires { array_vec_len gathered.old + 32 ≤ ROOM }
+fn put_port(gathered: &mut ArrayVec<u8, STATUS_ROOM>, port: SketchPort)
+    requires { array_vec_len gathered.old + 32 ≤ STATUS_ROOM }
     ensures items { gathered.new.items ≡ gathered.old.items ++ port_name port }
     ensures len { array_vec_len gathered.new ≤ array_vec_len gathered.old + 32 }
 {
@@ -83,33 +80,8 @@ fn put_port(gathered: &mut ArrayVec<u8, ROOM>, port: SketchPort)
     }
 }
 
-/// A line of a text.
-pub(crate) fn plain(text: &[u8]) -> ArrayVec<u8, ROOM>
-    requires { length text.now ≤ 64 }
-    ensures { result.items ≡ text.now ++ 10 ∷ [] }
-{
-    let mut gathered = ArrayVec::new();
-    put(&mut gathered, text);
-    put(&mut gathered, b"\n");
-    gathered
-}
-
-/// A line of a text, a number and another text.
-pub(crate) fn numbered(text: &[u8], number: u64, rest: &[u8]) -> ArrayVec<u8, ROOM>
-    requires first { length text.now ≤ 40 }
-    requires last { length rest.now ≤ 40 }
-    ensures { result.items ≡ text.now ++ decimal number ++ rest.now ++ 10 ∷ [] }
-{
-    let mut gathered = ArrayVec::new();
-    put(&mut gathered, text);
-    put_number(&mut gathered, number);
-    put(&mut gathered, rest);
-    put(&mut gathered, b"\n");
-    gathered
-}
-
 // A line of a text and the name of a port.
-fn on_port(text: &[u8], port: SketchPort) -> ArrayVec<u8, ROOM>
+fn on_port(text: &[u8], port: SketchPort) -> ArrayVec<u8, STATUS_ROOM>
     requires { length text.now ≤ 40 }
     ensures { result.items ≡ text.now ++ port_name port ++ 10 ∷ [] }
 {
@@ -121,8 +93,8 @@ fn on_port(text: &[u8], port: SketchPort) -> ArrayVec<u8, ROOM>
 }
 
 // Adds which file is no sketch.
-fn put_bad_file(gathered: &mut ArrayVec<u8, ROOM>, part: u32)
-    requires { array_vec_len gathered.old + 40 ≤ ROOM }
+fn put_bad_file(gathered: &mut ArrayVec<u8, STATUS_ROOM>, part: u32)
+    requires { array_vec_len gathered.old + 40 ≤ STATUS_ROOM }
     ensures items { gathered.new.items ≡ gathered.old.items ++ bad_file part }
     ensures len { array_vec_len gathered.new ≤ array_vec_len gathered.old + 40 }
 {
@@ -135,7 +107,7 @@ fn put_bad_file(gathered: &mut ArrayVec<u8, ROOM>, part: u32)
 }
 
 // The line of a file that is no sketch.
-fn bad_sketch(part: u32, offset: u64) -> ArrayVec<u8, ROOM>
+fn bad_sketch(part: u32, offset: u64) -> ArrayVec<u8, STATUS_ROOM>
     ensures { result.items ≡ own_line (SketchStatus.BadSketch part offset) }
 {
     let mut gathered = ArrayVec::new();
@@ -147,18 +119,18 @@ fn bad_sketch(part: u32, offset: u64) -> ArrayVec<u8, ROOM>
 }
 
 // The line of a stream that cannot begin where it was to.
-fn bad_start_line(records: u64, is_sum: bool) -> ArrayVec<u8, ROOM>
+fn bad_start_line(records: u64, is_sum: bool) -> ArrayVec<u8, STATUS_ROOM>
     ensures { result.items ≡ bad_start records is_sum }
 {
     if is_sum {
-        plain(b"sip: bad start, sketch is a sum")
+        plain_line(b"sip: bad start, sketch is a sum")
     } else {
-        numbered(b"sip: bad start, sketch has ", records, b" records")
+        numbered_line(b"sip: bad start, sketch has ", records, b" records")
     }
 }
 
 // The line of a part that is not added.
-fn unlike_line(part: u32, why: Unlike) -> ArrayVec<u8, ROOM>
+fn unlike_line(part: u32, why: Unlike) -> ArrayVec<u8, STATUS_ROOM>
     ensures { result.items ≡ own_line (SketchStatus.Unlike part why) }
 {
     let mut gathered = ArrayVec::new();
@@ -171,15 +143,15 @@ fn unlike_line(part: u32, why: Unlike) -> ArrayVec<u8, ROOM>
 }
 
 // The line of a status that no other command has.
-fn line_of(status: &SketchStatus) -> ArrayVec<u8, ROOM>
+fn line_of(status: &SketchStatus) -> ArrayVec<u8, STATUS_ROOM>
     ensures { result.items ≡ own_line status.now }
 {
     match *status {
-        SketchStatus::Exists => plain(b"sip: sketch exists"),
+        SketchStatus::Exists => plain_line(b"sip: sketch exists"),
         SketchStatus::BadSketch { part, offset } => bad_sketch(part, offset),
-        SketchStatus::Busy => plain(b"sip: sketch is busy"),
+        SketchStatus::Busy => plain_line(b"sip: sketch is busy"),
         SketchStatus::BadStart { records, is_sum } => bad_start_line(records, is_sum),
-        SketchStatus::Behind { at } => numbered(b"sip: stream ends at record ", at, b""),
+        SketchStatus::Behind { at } => numbered_line(b"sip: stream ends at record ", at, b""),
         SketchStatus::Unlike { part, why } => unlike_line(part, why),
         SketchStatus::ReadFault { port } => on_port(b"sip: read fault on ", port),
         SketchStatus::WriteFault { port } => on_port(b"sip: write fault on ", port),

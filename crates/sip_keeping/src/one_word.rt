@@ -4,11 +4,10 @@ ghost use Rattle.std.specs.Prelude.{◌≡◌, ◌≢◌, ◌↔◌, ℕ, ◌<�
 ghost use Rattle.std.specs.Prelude.{Option as AnyOption, [], length};
 ghost use Rattle.sip_stream.specs.declared.form.Form.{Form as AnyForm};
 ghost use Rattle.sip_words.specs.Words.{word};
-ghost use Rattle.sip_words.specs.Shapes.{IsDepth, IsStoredWord};
+ghost use Rattle.sip_words.specs.Shapes.{IsStoredWord};
 ghost use Rattle.sip_keeping.specs.Words.{IsCount, IsPart};
 
 use sip_stream::Form;
-use sip_vector::Depth;
 use sip_words::{Words, read_decimal, read_stored};
 
 /// The greatest number of a record that is begun at, and of records that are stored at once.
@@ -22,19 +21,6 @@ pub(crate) fn has_name(words: &Words, number: usize) -> bool
         Some(name) => !name.is_empty(),
         None => false,
     }
-}
-
-/// The depth that the word of this number is.
-pub(crate) fn depth_at(words: &Words, number: usize) -> Option<Depth>
-    ensures { MatchOption result
-        (number < length words.now → (d : ℕ) → IsDepth d (word words.now number) → ⊥)
-        (λ depth. (number < length words.now) × IsDepth depth (word words.now number)) }
-{
-    let levels = read_decimal(words.get(number)?)?;
-    if levels > Depth::MOST as u64 {
-        return None;
-    }
-    Depth::new(levels as u8)
 }
 
 /// The form of the stored stream that the word of this number names.

@@ -39,12 +39,12 @@ unfolding read_found
 fault_says version bytes reason e = ap (λ (r : Result (Message × List ℕ) Reason). r >>= λ frame. (found_in frame.0 >>= λ place. Ok (place, frame.1))) e
 
 -- a message says what it names
-place_says : (version : Version) (bytes : List ℕ) (m : Message) → read_frame version places.Found bytes ≡ Ok (m, []) → read_found version bytes ≡ (found_in m >>= λ place. Ok (place, []))
+pub place_says : (version : Version) (bytes : List ℕ) (m : Message) → read_frame version places.Found bytes ≡ Ok (m, []) → read_found version bytes ≡ (found_in m >>= λ place. Ok (place, []))
 unfolding read_found
 place_says version bytes m e = ap (λ (r : Result (Message × List ℕ) WireFault). reasoned r >>= λ frame. (found_in frame.0 >>= λ place. Ok (place, frame.1))) e
 
 -- why a message names no place, it is not that the link ended
-never_closed : (m : Message) (reason : Reason) → found_in m ≡ Err reason → reason ≢ reasons.Closed
+pub never_closed : (m : Message) (reason : Reason) → found_in m ≡ Err reason → reason ≢ reasons.Closed
 never_closed (messages.Found flag index) reason e closed = absurd cc
 never_closed (messages.Refuse code) reason e closed =
     let same : reasons.Refused code ≡ reason = cc in

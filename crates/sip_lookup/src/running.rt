@@ -20,7 +20,7 @@ use crate::asker::Looker;
 use crate::task::LookTask;
 use sip_ports::{Link, NullSink, Sink, Source};
 use sip_vector::Depth;
-use sip_verifier::{Seats, Status, conclude_run, gather, status_of};
+use sip_verifier::{Seats, Status, Tables, conclude_run, gather, status_of};
 use std::alloc::Global;
 use std::mem;
 
@@ -92,6 +92,7 @@ fn gather_lookups<A: Source, B: Source, L: Link>(
         second,
         peer,
         &mut keep,
+        &Tables::new(alloc),
         &mut gathered,
     );
     seat_lookups(alloc, task, &mut gathered)
@@ -101,9 +102,10 @@ fn gather_lookups<A: Source, B: Source, L: Link>(
 /// `peer`, asks each lookup, judges the replies and writes a line for each to `report`.
 ///
 /// After a rejection its line is written and nothing more is sent. The memory is a frame of 8,709
-/// bytes and room for 65,536 entries of 16 bytes, taken before the first Ask: it does not grow with
-/// the stream. The time is linear in the stream and the replies, with at most `depth`
-/// multiplications for each record and lookup. No record of the talk is kept.
+/// bytes and room for 65,536 entries of 16 bytes, taken before the first Ask, and for each lookup
+/// tables of 2 KiB for eight levels: it does not grow with the stream. The time is linear in the
+/// stream and the replies, with one multiplication for each eight levels, record and lookup. No
+/// record of the talk is kept.
 #[inline(never)]
 pub fn look_stream<A: Source, B: Source, L: Link, K: Sink>(
     alloc: Global,

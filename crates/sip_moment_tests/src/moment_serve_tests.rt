@@ -2,7 +2,10 @@
 use crate::facts::expect;
 use crate::moment_runs::one;
 use sip_check_tests::events::sent_in;
-use sip_check_tests::serving::{Server, first_call_unserved, first_unserved, is_served, served};
+use sip_check_tests::frames::{BYE, OUT_OF_TURN, REVEAL, STREAM, SUB_1_2};
+use sip_check_tests::serving::{
+    Server, Talk, first_call_unserved, first_unserved, is_served, served,
+};
 use sip_helper::HelpStatus;
 use sip_moments::{moment_stream, serve_moments};
 use sip_ports::{MemoryLink, MemorySink, MemorySource};
@@ -12,32 +15,10 @@ use std::alloc::Global;
 use std::process::Abort;
 use std::test::Fail;
 
-// What a helper receives, part by part, how the talk ends, and what it sends, part by part.
-type Talk = (
-    &'static [&'static [u8]],
-    HelpStatus,
-    &'static [&'static [u8]],
-);
-
-// The opening of a talk over four items, the vector (3, 0, 5, 1) and its end.
-const STREAM: [u8; 52] = [
-    1, 0, 2, 1, 2, 2, 0, 41, 0, 3, 0, 0, 0, 0, 0, 0, 0, 0, 0, 0, 0, 0, 3, 0, 0, 0, 0, 2, 0, 0, 0,
-    0, 0, 0, 0, 5, 0, 0, 0, 0, 3, 0, 0, 0, 0, 0, 0, 0, 1, 3, 0, 0,
-];
-
-// The query for the entries 1 to 2, the challenge 2, and the farewell.
-const SUB_1_2: [u8; 12] = [4, 0, 9, 1, 0, 0, 0, 1, 0, 0, 0, 2];
-
-const REVEALED: [u8; 11] = [5, 0, 8, 0, 0, 0, 0, 0, 0, 0, 2];
-
-const BYE: [u8; 3] = [6, 0, 0];
-
 // An Ask of the third moment of side 0, and the end of the talk.
 const ASK: [u8; 5] = [0x24, 0, 2, 0, 3];
 
 const END: [u8; 3] = [0x23, 0, 0];
-
-const OUT_OF_TURN: [u8; 4] = [0x18, 0, 1, 4];
 
 // The third moment of (3, 0, 5, 1) is 153.
 const CLAIM: [u8; 11] = [0x11, 0, 8, 0, 0, 0, 0, 0, 0, 0, 153];
@@ -98,14 +79,14 @@ const ZERO: [u8; 46] = [
 ];
 
 // Talks that are served to their end, or in which the link ends.
-const SERVED: [Talk; 7] = [
+const SERVED: [Talk<'static, HelpStatus>; 7] = [
     (
-        &[&STREAM, &ASK, &REVEALED, &END],
+        &[&STREAM, &ASK, &REVEAL, &END],
         HelpStatus::Served,
         &[&CLAIM, &FIRST, &SECOND],
     ),
     (
-        &[&SIDE_1, &[0x24, 0, 2, 1, 5], &REVEALED, &END],
+        &[&SIDE_1, &[0x24, 0, 2, 1, 5], &REVEAL, &END],
         HelpStatus::Served,
         &[&OF_SIDE_1],
     ),
@@ -130,7 +111,7 @@ const SERVED: [Talk; 7] = [
 ];
 
 // Talks with a message that may not come, or none.
-const REFUSED: [Talk; 12] = [
+const REFUSED: [Talk<'static, HelpStatus>; 12] = [
     // A side above 1, degrees beside 3 to 8, and a moment for which a claim may have no room.
     (
         &[&STREAM, &[0x24, 0, 2, 2, 3]],
@@ -184,7 +165,7 @@ const REFUSED: [Talk; 12] = [
     // Where a moment is due that farewell is no frame, nor is a challenge behind the last reply.
     (&[&STREAM, &BYE], HelpStatus::BadFrame { offset: 52 }, &[]),
     (
-        &[&STREAM, &ASK, &REVEALED, &REVEALED],
+        &[&STREAM, &ASK, &REVEAL, &REVEAL],
         HelpStatus::BadFrame { offset: 68 },
         &[&CLAIM, &FIRST, &SECOND],
     ),
@@ -214,7 +195,7 @@ impl Server for Helper {
 }
 
 // Each talk, in pieces of one byte and in one piece.
-fn are_served(rt: &impl Abort, alloc: Global, talks: &[Talk]) {
+fn are_served(rt: &impl Abort, alloc: Global, talks: &[Talk<'_, HelpStatus>]) {
     let unserved = first_unserved::<Helper>(alloc, talks).expect(rt, "memory");
     assert_eq!(rt; unserved, None);
 }
@@ -251,7 +232,7 @@ fn the_17th_moment_is_out_of_turn(rt: HostRuntime) {
 // all.
 #[test]
 fn a_link_of_moments_fails_at_each_call(rt: HostRuntime) {
-    let parts: [&[u8]; 4] = [&STREAM, &ASK, &REVEALED, &END];
+    let parts: [&[u8]; 4] = [&STREAM, &ASK, &REVEAL, &END];
     let sent: [&[u8]; 3] = [&CLAIM, &FIRST, &SECOND];
     let ends = (HelpStatus::PeerFault, HelpStatus::Served);
     let unserved = first_call_unserved::<Helper>(rt.alloc(), (&parts, &sent), 13, ends);

@@ -25,7 +25,7 @@ use crate::task::MomentTask;
 use arrayvec::ArrayVec;
 use sip_ports::{Link, NullSink, Sink, Source};
 use sip_vector::{Depth, Query};
-use sip_verifier::{Seats, Status, Task, Weights, conclude_run, gather, status_of};
+use sip_verifier::{Seats, Status, Tables, Task, Weights, conclude_run, gather, status_of};
 use sip_wire::{Frame, MOST_QUERIES, Version};
 use std::alloc::Global;
 use std::mem;
@@ -140,6 +140,7 @@ fn gather_questions<A: Source, B: Source, L: Link>(
         second,
         peer,
         &mut keep,
+        &Tables::new(alloc),
         &mut gathered,
     );
     seat_questions(alloc, task, &weights, &mut gathered)
@@ -151,9 +152,9 @@ fn gather_questions<A: Source, B: Source, L: Link>(
 ///
 /// After a rejection its line is written and nothing more is sent. Nothing is asked, and the status
 /// is `TooHigh`, where the weight of a moment's side, to the power of the degree, is above 2^60 -
-/// 1: a claim may then have no room for it. The memory is a frame of 8,709 bytes, and doesn't grow
-/// with the stream; the time is linear in the stream and the replies, with at most `depth`
-/// multiplications for each record and moment.
+/// 1: a claim may then have no room for it. The memory is a frame of 8,709 bytes, and for each
+/// moment tables of 2 KiB for eight levels; it doesn't grow with the stream. The time is linear in
+/// the stream and the replies, with one multiplication for each eight levels, record and moment.
 ///
 /// No transcript is kept.
 #[inline(never)]

@@ -1,10 +1,8 @@
 // What a helper says, over whole talks.
 use crate::facts::expect;
-use crate::talks::{
-    BYE, END, ENDS, ENTRIES, ENTRY_AND_SIBLINGS, HITTERS, NO_SIBLINGS, REFUSALS, REVEALED,
-    SHARES_IN_VERSION_1, STREAM, SUB_1_2, SUMS, Talk,
-};
-use sip_check_tests::serving::{Server, first_call_unserved, first_unserved, is_served};
+use crate::talks::{END, ENDS, ENTRIES, HITTERS, REFUSALS, SHARES_IN_VERSION_1, SUMS};
+use sip_check_tests::frames::{BYE, ENTRY, NO_SIBLINGS, REVEAL, STREAM, SUB_1_2};
+use sip_check_tests::serving::{Server, Talk, first_call_unserved, first_unserved, is_served};
 use sip_helper::{HelpStatus, serve};
 use sip_ports::MemoryLink;
 use std::alloc::Global;
@@ -22,7 +20,7 @@ impl Server for Helper {
 }
 
 // Each talk, in pieces of one byte and in one piece.
-fn are_served(rt: &impl Abort, alloc: Global, talks: &[Talk]) {
+fn are_served(rt: &impl Abort, alloc: Global, talks: &[Talk<'_, HelpStatus>]) {
     let unserved = first_unserved::<Helper>(alloc, talks).expect(rt, "memory");
     assert_eq!(rt; unserved, None);
 }
@@ -61,8 +59,8 @@ fn hitters_are_refused(rt: HostRuntime) {
 // all.
 #[test]
 fn a_link_fails_at_each_call(rt: HostRuntime) {
-    let parts: [&[u8]; 4] = [&STREAM, &SUB_1_2, &REVEALED, &BYE];
-    let sent: [&[u8]; 2] = [&ENTRY_AND_SIBLINGS, &NO_SIBLINGS];
+    let parts: [&[u8]; 4] = [&STREAM, &SUB_1_2, &REVEAL, &BYE];
+    let sent: [&[u8]; 2] = [&ENTRY, &NO_SIBLINGS];
     let ends = (HelpStatus::PeerFault, HelpStatus::Served);
     let unserved = first_call_unserved::<Helper>(rt.alloc(), (&parts, &sent), 13, ends);
     assert_eq!(rt; unserved.expect(&rt, "memory"), None);
@@ -127,7 +125,7 @@ fn nodes_by_256(rt: HostRuntime) {
     let alloc = rt.alloc();
     let node = [0, 0, 0, 0, 0, 0, 0, 15, 0, 0, 0, 0, 0, 0, 0, 2];
     let nodes = two_frames(&rt, alloc, 512, &[0x16, 0x14, 0x02, 1, 0], &node);
-    let asked = [REVEALED.as_slice(), &BYE]
+    let asked = [REVEAL.as_slice(), &BYE]
         .concat(alloc)
         .expect(&rt, "memory");
     let shown = [END.as_slice(), &nodes].concat(alloc).expect(&rt, "memory");

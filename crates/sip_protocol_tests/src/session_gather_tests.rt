@@ -7,7 +7,7 @@ use arrayvec::ArrayVec;
 use sip_ports::{MemoryLink, MemorySink, MemorySource};
 use sip_stream::{Form, Why};
 use sip_vector::{Depth, Query, Side};
-use sip_verifier::{Port, Status, Task, gather};
+use sip_verifier::{Port, Status, Tables, Task, gather};
 use std::alloc::Global;
 use std::process::Abort;
 use std::test::Fail;
@@ -85,6 +85,7 @@ impl Row<'_> {
             &mut second,
             &mut peer,
             &mut keep,
+            &Tables::new(alloc),
             &mut gathered,
         );
         let facts = [

@@ -1,40 +1,11 @@
 //! Whole talks of a helper, as tables.
 
+use sip_check_tests::frames::{BYE, ENTRY, NO_SIBLINGS, REVEAL, STREAM, SUB_1_2};
+use sip_check_tests::serving::Talk;
 use sip_helper::HelpStatus;
-
-/// What a helper receives, part by part, how the talk ends, and what it sends, part by part.
-pub(crate) type Talk = (
-    &'static [&'static [u8]],
-    HelpStatus,
-    &'static [&'static [u8]],
-);
-
-/// The opening of a talk over four items, the vector (3, 0, 5, 1) and its end.
-pub(crate) const STREAM: [u8; 52] = [
-    1, 0, 2, 1, 2, 2, 0, 41, 0, 3, 0, 0, 0, 0, 0, 0, 0, 0, 0, 0, 0, 0, 3, 0, 0, 0, 0, 2, 0, 0, 0,
-    0, 0, 0, 0, 5, 0, 0, 0, 0, 3, 0, 0, 0, 0, 0, 0, 0, 1, 3, 0, 0,
-];
-
-/// The query for the entries 1 to 2.
-pub(crate) const SUB_1_2: [u8; 12] = [4, 0, 9, 1, 0, 0, 0, 1, 0, 0, 0, 2];
-
-/// The challenge 2.
-pub(crate) const REVEALED: [u8; 11] = [5, 0, 8, 0, 0, 0, 0, 0, 0, 0, 2];
-
-/// The farewell.
-pub(crate) const BYE: [u8; 3] = [6, 0, 0];
 
 /// The end of a level.
 pub(crate) const END: [u8; 3] = [0x17, 0, 0];
-
-/// The entry (2, 5) and the siblings 3 and 1.
-pub(crate) const ENTRY_AND_SIBLINGS: [u8; 37] = [
-    0x13, 0, 0x0e, 0, 1, 0, 0, 0, 2, 0, 0, 0, 0, 0, 0, 0, 5, 0x14, 0, 0x11, 3, 0, 0, 0, 0, 0, 0, 0,
-    3, 0, 0, 0, 0, 0, 0, 0, 1,
-];
-
-/// No siblings.
-pub(crate) const NO_SIBLINGS: [u8; 4] = [0x14, 0, 1, 0];
 
 // The refusals of an answer that is too wide, of a negative entry, and of a message out of turn.
 const TOO_WIDE: &[u8] = &[0x18, 0, 1, 2];
@@ -64,11 +35,11 @@ const WIDE_REPLIES: [u8; 45] = [
 const SUB_0_1: &[u8] = &[4, 0, 9, 1, 0, 0, 0, 0, 0, 0, 0, 1];
 
 /// Talks with queries for entries.
-pub(crate) const ENTRIES: [Talk; 3] = [
+pub(crate) const ENTRIES: [Talk<'static, HelpStatus>; 3] = [
     (
-        &[&STREAM, &SUB_1_2, &REVEALED, &BYE],
+        &[&STREAM, &SUB_1_2, &REVEAL, &BYE],
         HelpStatus::Served,
-        &[&ENTRY_AND_SIBLINGS, &NO_SIBLINGS],
+        &[&ENTRY, &NO_SIBLINGS],
     ),
     (&[&WIDE], HelpStatus::Served, &[&WIDE_REPLIES]),
     // Over two items each query has one reply; the 17th is out of turn.
@@ -119,7 +90,7 @@ pub(crate) const ENTRIES: [Talk; 3] = [
 ];
 
 /// How talks end.
-pub(crate) const ENDS: [Talk; 17] = [
+pub(crate) const ENDS: [Talk<'static, HelpStatus>; 17] = [
     // The link ends before the opening, behind it, and inside a frame.
     (&[], HelpStatus::PeerClosed, &[]),
     (&[&[1, 0, 2, 1, 2]], HelpStatus::PeerClosed, &[]),
@@ -163,7 +134,7 @@ pub(crate) const ENDS: [Talk; 17] = [
     // A challenge, a second opening, a query and the end before the opening, and an item that the
     // depth does not have.
     (
-        &[&[1, 0, 2, 1, 2], &REVEALED],
+        &[&[1, 0, 2, 1, 2], &REVEAL],
         HelpStatus::BadFrame { offset: 5 },
         &[OUT_OF_TURN],
     ),
@@ -209,7 +180,7 @@ const SHARE: [u8; 13] = [4, 0, 10, 6, 0, 0, 0, 0, 1, 0, 0, 0, 2];
 
 /// Wherever a query for a share stands in a talk in version 1, it is no frame: nothing is sent
 /// behind the replies before it.
-pub(crate) const SHARES_IN_VERSION_1: [Talk; 5] = [
+pub(crate) const SHARES_IN_VERSION_1: [Talk<'static, HelpStatus>; 5] = [
     // Nothing was heard; the stream goes on; it has ended; a query is open; it was answered to its
     // end.
     (&[&SHARE], HelpStatus::BadFrame { offset: 0 }, &[]),
@@ -222,12 +193,12 @@ pub(crate) const SHARES_IN_VERSION_1: [Talk; 5] = [
     (
         &[&STREAM, &SUB_1_2, &SHARE],
         HelpStatus::BadFrame { offset: 64 },
-        &[&ENTRY_AND_SIBLINGS],
+        &[&ENTRY],
     ),
     (
-        &[&STREAM, &SUB_1_2, &REVEALED, &SHARE],
+        &[&STREAM, &SUB_1_2, &REVEAL, &SHARE],
         HelpStatus::BadFrame { offset: 75 },
-        &[&ENTRY_AND_SIBLINGS, &NO_SIBLINGS],
+        &[&ENTRY, &NO_SIBLINGS],
     ),
 ];
 
@@ -268,25 +239,25 @@ const OF_ITEMS_1_3: &[u8] = &[
 ];
 
 /// Sums, each of them in a talk of its own, and then all in one.
-pub(crate) const SUMS: [Talk; 4] = [
+pub(crate) const SUMS: [Talk<'static, HelpStatus>; 4] = [
     (
-        &[&TWO_SIDES, SQUARES, &REVEALED, &BYE],
+        &[&TWO_SIDES, SQUARES, &REVEAL, &BYE],
         HelpStatus::Served,
         &[OF_SQUARES],
     ),
     (
-        &[&TWO_SIDES, PRODUCTS, &REVEALED, &BYE],
+        &[&TWO_SIDES, PRODUCTS, &REVEAL, &BYE],
         HelpStatus::Served,
         &[OF_PRODUCTS],
     ),
     (
-        &[&TWO_SIDES, ITEMS_1_3, &REVEALED, &BYE],
+        &[&TWO_SIDES, ITEMS_1_3, &REVEAL, &BYE],
         HelpStatus::Served,
         &[OF_ITEMS_1_3],
     ),
     (
         &[
-            &TWO_SIDES, SQUARES, &REVEALED, PRODUCTS, &REVEALED, ITEMS_1_3, &REVEALED, &BYE,
+            &TWO_SIDES, SQUARES, &REVEAL, PRODUCTS, &REVEAL, ITEMS_1_3, &REVEAL, &BYE,
         ],
         HelpStatus::Served,
         &[OF_SQUARES, OF_PRODUCTS, OF_ITEMS_1_3],
@@ -302,14 +273,14 @@ const WIDE_STREAM: [u8; 64] = [
 
 /// Talks with queries for the heavy hitters of (3, 0, 5, 1), or for shares of its total, which is
 /// 9.
-pub(crate) const HITTERS: [Talk; 5] = [
+pub(crate) const HITTERS: [Talk<'static, HelpStatus>; 5] = [
     // At least 4: the leaves 5 and 1 below the node 6, and the light node, which has the hash
     // 9 = 3 + 3 * 2.
     (
         &[
             &STREAM,
             &[4, 0, 10, 5, 0, 0, 0, 0, 0, 0, 0, 0, 4],
-            &REVEALED,
+            &REVEAL,
             &BYE,
         ],
         HelpStatus::Served,
@@ -324,7 +295,7 @@ pub(crate) const HITTERS: [Talk; 5] = [
         &[
             &STREAM,
             &[4, 0, 10, 5, 0, 0, 0, 0, 0, 0, 0, 0, 3],
-            &REVEALED,
+            &REVEAL,
             &BYE,
         ],
         HelpStatus::Served,
@@ -339,7 +310,7 @@ pub(crate) const HITTERS: [Talk; 5] = [
         &[
             &STREAM,
             &[4, 0, 10, 5, 0, 0, 0, 0, 0, 0, 0, 0, 10],
-            &REVEALED,
+            &REVEAL,
             &BYE,
         ],
         HelpStatus::Served,
@@ -347,7 +318,7 @@ pub(crate) const HITTERS: [Talk; 5] = [
     ),
     // A half is 5 at least: the leaves 5 and 1, and the light node.
     (
-        &[&WIDE_STREAM, &SHARE, &REVEALED, &BYE],
+        &[&WIDE_STREAM, &SHARE, &REVEAL, &BYE],
         HelpStatus::Served,
         &[&[
             0x15, 0, 34, 0, 2, 0, 0, 0, 0, 0, 0, 0, 2, 0, 0, 0, 0, 0, 0, 0, 5, 0, 0, 0, 0, 0, 0, 0,
@@ -361,7 +332,7 @@ pub(crate) const HITTERS: [Talk; 5] = [
         &[
             &WIDE_STREAM,
             &[4, 0, 10, 6, 0, 0, 0, 0, 1, 0, 0, 0, 1],
-            &REVEALED,
+            &REVEAL,
             &BYE,
         ],
         HelpStatus::Served,
@@ -384,7 +355,7 @@ const AT_LEAST_1: &[u8] = &[4, 0, 10, 5, 0, 0, 0, 0, 0, 0, 0, 0, 1];
 const AT_LEAST_3: &[u8] = &[4, 0, 10, 5, 0, 0, 0, 0, 0, 0, 0, 0, 3];
 
 /// Streams over two items of side 0, a threshold, and the one reply to it.
-pub(crate) const REFUSALS: [Talk; 5] = [
+pub(crate) const REFUSALS: [Talk<'static, HelpStatus>; 5] = [
     // A negative entry refuses, also where the answer is too wide as well: (-2, 5) and
     // (-1, 65,538).
     (

@@ -4,8 +4,8 @@ ghost use Rattle.std.specs.Prelude.{◌≤◌, length};
 ghost use Rattle.sip_wire.specs.Table.{most_queries};
 
 use crate::facts::expect;
-use crate::question_ask_tests::{Kind, MOMENT, asked_in};
-use crate::question_serve_tests::{CUBES, LAST, REVEALED, SUM};
+use crate::kinds::{Kind, MOMENT, asked_in};
+use sip_check_tests::frames::{CUBES, LAST, REVEAL, SUM};
 use sip_questions::Question;
 use sip_verifier::Status;
 use sip_wire::Reason;
@@ -184,7 +184,7 @@ const NOTHING: Before = Before {
 
 const A_MOMENT: Before = Before {
     count: 1,
-    said: &[&CUBES, &REVEALED],
+    said: &[&CUBES, &REVEAL],
     replies: &[&SUM, &LAST],
     line: b"moment:0:3 153\n",
 };

@@ -6,9 +6,9 @@ use crate::hostile::{
     FOUND_NONE, HELD, HIGH_CLAIM, Hostile, LAST_AND_MORE, POWER, REFUSE, SHORT_FOUND, SHORT_POWER,
     check_hostile,
 };
-use crate::question_ask_tests::{KINDS, Kind, MOMENT, SUCC};
-use crate::question_serve_tests::{
-    ASK_SUCC_1, ENTRY, FOUND_2, LEAVES, NINE, NO_SIBLINGS, REVEALED, SQUARES, SUM,
+use crate::kinds::{KINDS, Kind, MOMENT, SUCC};
+use sip_check_tests::frames::{
+    ENTRY, FOUND_2, LEAVES, NINE, NO_SIBLINGS, REVEAL, SQUARES, SUCC_1, SUM,
 };
 use sip_wire::Reason;
 use std::test::Fail;
@@ -21,7 +21,7 @@ const OF_PLACES: [Hostile; 7] = [
     ("entries", &[&ENTRY], 1, 0, Reason::BadKind),
     ("leaves", &[&LEAVES], 1, 0, Reason::BadKind),
     ("what was heard", &[&HELD], 1, 0, Reason::BadKind),
-    ("what was asked", &[&ASK_SUCC_1], 1, 0, Reason::BadKind),
+    ("what was asked", &[&SUCC_1], 1, 0, Reason::BadKind),
 ];
 
 // Where the place has a fault.
@@ -179,7 +179,7 @@ const OF_LATER_POWERS: [Hostile; 5] = [
 const SUB_1_3: [u8; 12] = [4, 0, 9, 1, 0, 0, 0, 1, 0, 0, 0, 3];
 
 const SUCC_AT_3: Kind = Kind {
-    said: &[&ASK_SUCC_1, &SUB_1_3, &REVEALED],
+    said: &[&SUCC_1, &SUB_1_3, &REVEAL],
     ..SUCC
 };
 

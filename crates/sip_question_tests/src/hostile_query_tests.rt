@@ -6,8 +6,8 @@ use crate::hostile::{
     LEAF_2, LEAVES_3_2, LEAVES_OF_10, NINE_AND_MORE, NODE_OF_2, NODE_OF_4, NODE_OF_10, ONE_AS_TWO,
     POLY, POWER, REFUSE, SHORT_ENTRIES, check_hostile,
 };
-use crate::question_ask_tests::{KINDS, Kind, SUB};
-use crate::question_serve_tests::{ENTRY, FOUND_2, LAST, LEAVES, NO_SIBLINGS, NODES, SQUARES, SUM};
+use crate::kinds::{KINDS, Kind, SUB};
+use sip_check_tests::frames::{ENTRY, FOUND_2, LAST, LEAVES, NO_SIBLINGS, NODES, SQUARES, SUM};
 use sip_wire::Reason;
 use std::test::Fail;
 

@@ -1,6 +1,6 @@
 //! What the helper of questions does over worked rows, also over a store of its own, and what is
 //! asked of it. Nothing but tests stands here, so that this layer is proved once, and what the
-//! tests of both ends take from here: `asking`.
+//! tests of both ends take from here: `asking` and `kinds`.
 #![tactic(auto)]
 
 pub mod asking;
@@ -12,6 +12,7 @@ mod hostile;
 mod hostile_kind_tests;
 #[cfg(test)]
 mod hostile_query_tests;
+pub mod kinds;
 #[cfg(test)]
 mod question_ask_tests;
 #[cfg(test)]

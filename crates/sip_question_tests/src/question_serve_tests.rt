@@ -1,86 +1,18 @@
 // What a helper of questions says, over whole talks.
 use crate::facts::expect;
-use sip_check_tests::serving::{Server, first_unserved, is_served};
+use sip_check_tests::frames::{
+    BYE, CUBES, ENTRY, F2, FOUND_0, FOUND_2, HEAVY_4, LAST, LEAVES, NINE, NO_SIBLINGS, NODES,
+    OUT_OF_TURN, REVEAL, SQUARES, STREAM, SUB_1_2, SUCC_1, SUM,
+};
+use sip_check_tests::serving::{Server, Talk, first_unserved, is_served};
 use sip_helper::HelpStatus;
 use sip_ports::MemoryLink;
 use sip_questions::serve_questions;
 use std::alloc::Global;
 use std::process::Abort;
 
-// What a helper receives, part by part, how the talk ends, and what it sends, part by part.
-type Talk = (
-    &'static [&'static [u8]],
-    HelpStatus,
-    &'static [&'static [u8]],
-);
-
-// The opening of a talk over four items, the vector (3, 0, 5, 1) and its end.
-pub(crate) const STREAM: [u8; 52] = [
-    1, 0, 2, 1, 2, 2, 0, 41, 0, 3, 0, 0, 0, 0, 0, 0, 0, 0, 0, 0, 0, 0, 3, 0, 0, 0, 0, 2, 0, 0, 0,
-    0, 0, 0, 0, 5, 0, 0, 0, 0, 3, 0, 0, 0, 0, 0, 0, 0, 1, 3, 0, 0,
-];
-
-// The challenge 2, and the two ends of a talk, of which a talk of questions has the first.
-pub(crate) const REVEALED: [u8; 11] = [5, 0, 8, 0, 0, 0, 0, 0, 0, 0, 2];
-
-pub(crate) const BYE: [u8; 3] = [6, 0, 0];
-
+// The end of a talk of moments or of lookups.
 pub(crate) const END: [u8; 3] = [0x23, 0, 0];
-
-pub(crate) const OUT_OF_TURN: [u8; 4] = [0x18, 0, 1, 4];
-
-// The entries 1 to 2: the entry (2, 5) and the siblings 3 and 1; then no siblings.
-pub(crate) const SUB_1_2: [u8; 12] = [4, 0, 9, 1, 0, 0, 0, 1, 0, 0, 0, 2];
-
-pub(crate) const ENTRY: [u8; 37] = [
-    0x13, 0, 0x0e, 0, 1, 0, 0, 0, 2, 0, 0, 0, 0, 0, 0, 0, 5, 0x14, 0, 0x11, 3, 0, 0, 0, 0, 0, 0, 0,
-    3, 0, 0, 0, 0, 0, 0, 0, 1,
-];
-
-pub(crate) const NO_SIBLINGS: [u8; 4] = [0x14, 0, 1, 0];
-
-// The second moment of side 0: 35, 34 - 60x + 25x^2, and then the number 9.
-pub(crate) const F2: [u8; 5] = [4, 0, 2, 3, 0];
-
-pub(crate) const SQUARES: [u8; 38] = [
-    0x11, 0, 8, 0, 0, 0, 0, 0, 0, 0, 0x23, 0x12, 0, 0x18, 0, 0, 0, 0, 0, 0, 0, 0x22, 0x1f, 0xff,
-    0xff, 0xff, 0xff, 0xff, 0xff, 0xc5, 0, 0, 0, 0, 0, 0, 0, 0x19,
-];
-
-pub(crate) const NINE: [u8; 27] = [
-    0x12, 0, 0x18, 0, 0, 0, 0, 0, 0, 0, 9, 0, 0, 0, 0, 0, 0, 0, 0, 0, 0, 0, 0, 0, 0, 0, 0,
-];
-
-// The entries of at least 4: the leaves 2 and 3, and then the node of items 0 and 1.
-pub(crate) const HEAVY_4: [u8; 13] = [4, 0, 10, 5, 0, 0, 0, 0, 0, 0, 0, 0, 4];
-
-pub(crate) const LEAVES: [u8; 32] = [
-    0x15, 0, 0x1a, 0, 2, 0, 0, 0, 2, 0, 0, 0, 0, 0, 0, 0, 5, 0, 0, 0, 3, 0, 0, 0, 0, 0, 0, 0, 1,
-    0x17, 0, 0,
-];
-
-pub(crate) const NODES: [u8; 28] = [
-    0x16, 0, 0x16, 0, 1, 0, 0, 0, 0, 0, 0, 0, 0, 0, 0, 0, 9, 0, 0, 0, 0, 0, 0, 0, 3, 0x17, 0, 0,
-];
-
-// The nearest entry at item 1 or above it is at item 2.
-pub(crate) const ASK_SUCC_1: [u8; 12] = [0x21, 0, 9, 3, 0, 0, 0, 0, 0, 0, 0, 1];
-
-pub(crate) const FOUND_2: [u8; 12] = [0x22, 0, 9, 1, 0, 0, 0, 0, 0, 0, 0, 2];
-
-// The third moment of side 0: 153, 152 - 381x + 321x^2 - 91x^3, and then -27.
-pub(crate) const CUBES: [u8; 5] = [0x24, 0, 2, 0, 3];
-
-pub(crate) const SUM: [u8; 46] = [
-    0x11, 0, 8, 0, 0, 0, 0, 0, 0, 0, 153, 0x25, 0, 32, 0, 0, 0, 0, 0, 0, 0, 152, 0x1f, 0xff, 0xff,
-    0xff, 0xff, 0xff, 0xfe, 0x82, 0, 0, 0, 0, 0, 0, 1, 0x41, 0x1f, 0xff, 0xff, 0xff, 0xff, 0xff,
-    0xff, 0xa4,
-];
-
-pub(crate) const LAST: [u8; 35] = [
-    0x25, 0, 32, 0x1f, 0xff, 0xff, 0xff, 0xff, 0xff, 0xff, 0xe4, 0, 0, 0, 0, 0, 0, 0, 0, 0, 0, 0,
-    0, 0, 0, 0, 0, 0, 0, 0, 0, 0, 0, 0, 0,
-];
 
 // The helper of questions.
 pub(crate) struct Helper;
@@ -94,25 +26,11 @@ impl Server for Helper {
 }
 
 // Talks that are served to their end: any kind behind any other, and a Bye at any place.
-const SERVED: [Talk; 9] = [
+const SERVED: [Talk<'static, HelpStatus>; 9] = [
     (
         &[
-            &STREAM,
-            &SUB_1_2,
-            &REVEALED,
-            &CUBES,
-            &REVEALED,
-            &ASK_SUCC_1,
-            &SUB_1_2,
-            &REVEALED,
-            &F2,
-            &REVEALED,
-            &CUBES,
-            &REVEALED,
-            &HEAVY_4,
-            &REVEALED,
-            &ASK_SUCC_1,
-            &BYE,
+            &STREAM, &SUB_1_2, &REVEAL, &CUBES, &REVEAL, &SUCC_1, &SUB_1_2, &REVEAL, &F2, &REVEAL,
+            &CUBES, &REVEAL, &HEAVY_4, &REVEAL, &SUCC_1, &BYE,
         ],
         HelpStatus::Served,
         &[
@@ -134,15 +52,7 @@ const SERVED: [Talk; 9] = [
     ),
     // Behind a place any question may come, and so may no query.
     (
-        &[
-            &STREAM,
-            &ASK_SUCC_1,
-            &ASK_SUCC_1,
-            &CUBES,
-            &REVEALED,
-            &F2,
-            &BYE,
-        ],
+        &[&STREAM, &SUCC_1, &SUCC_1, &CUBES, &REVEAL, &F2, &BYE],
         HelpStatus::Served,
         &[&FOUND_2, &FOUND_2, &SUM, &LAST, &SQUARES],
     ),
@@ -150,11 +60,7 @@ const SERVED: [Talk; 9] = [
     (&[&BYE], HelpStatus::Served, &[]),
     (&[&[1, 0, 2, 1, 2], &BYE], HelpStatus::Served, &[]),
     (&[&STREAM, &BYE, &[7]], HelpStatus::Served, &[]),
-    (
-        &[&STREAM, &ASK_SUCC_1, &BYE],
-        HelpStatus::Served,
-        &[&FOUND_2],
-    ),
+    (&[&STREAM, &SUCC_1, &BYE], HelpStatus::Served, &[&FOUND_2]),
     (&[&STREAM, &CUBES, &BYE], HelpStatus::Served, &[&SUM]),
     (&[&STREAM, &SUB_1_2, &BYE], HelpStatus::Served, &[&ENTRY]),
     // The link ends while a moment is open.
@@ -162,9 +68,9 @@ const SERVED: [Talk; 9] = [
 ];
 
 // Talks with a message that may not come: while a query is open, and while a moment is.
-const OPEN: [Talk; 8] = [
+const OPEN: [Talk<'static, HelpStatus>; 8] = [
     (
-        &[&STREAM, &SUB_1_2, &ASK_SUCC_1],
+        &[&STREAM, &SUB_1_2, &SUCC_1],
         HelpStatus::BadFrame { offset: 64 },
         &[&ENTRY, &OUT_OF_TURN],
     ),
@@ -179,7 +85,7 @@ const OPEN: [Talk; 8] = [
         &[&SUM, &OUT_OF_TURN],
     ),
     (
-        &[&STREAM, &CUBES, &ASK_SUCC_1],
+        &[&STREAM, &CUBES, &SUCC_1],
         HelpStatus::BadFrame { offset: 57 },
         &[&SUM, &OUT_OF_TURN],
     ),
@@ -195,46 +101,31 @@ const OPEN: [Talk; 8] = [
     ),
     // A challenge more than there are levels below the last, and one where nothing is open.
     (
-        &[&STREAM, &CUBES, &REVEALED, &REVEALED],
+        &[&STREAM, &CUBES, &REVEAL, &REVEAL],
         HelpStatus::BadFrame { offset: 68 },
         &[&SUM, &LAST, &OUT_OF_TURN],
     ),
     (
-        &[&STREAM, &ASK_SUCC_1, &REVEALED],
+        &[&STREAM, &SUCC_1, &REVEAL],
         HelpStatus::BadFrame { offset: 64 },
         &[&FOUND_2, &OUT_OF_TURN],
     ),
 ];
 
-// Talks with a question that cannot be asked, or too early, or with the end of another talk.
-const REFUSED: [Talk; 8] = [
+// Questions that cannot be asked: an Ask of no kind, an item too high, a side above 1, and degrees
+// beside 3 to 8.
+const REFUSED: [&[u8]; 5] = [
+    &[0x21, 0, 9, 4, 0, 0, 0, 0, 0, 0, 0, 1],
+    &[0x21, 0, 9, 1, 0, 0, 0, 0, 0, 0, 0, 4],
+    &[0x24, 0, 2, 2, 3],
+    &[0x24, 0, 2, 0, 2],
+    &[0x24, 0, 2, 0, 9],
+];
+
+// Talks with a question too early, or with the end of another talk.
+const EARLY: [Talk<'static, HelpStatus>; 3] = [
     (
-        &[&STREAM, &[0x21, 0, 9, 4, 0, 0, 0, 0, 0, 0, 0, 1]],
-        HelpStatus::BadFrame { offset: 52 },
-        &[&OUT_OF_TURN],
-    ),
-    (
-        &[&STREAM, &[0x21, 0, 9, 1, 0, 0, 0, 0, 0, 0, 0, 4]],
-        HelpStatus::BadFrame { offset: 52 },
-        &[&OUT_OF_TURN],
-    ),
-    (
-        &[&STREAM, &[0x24, 0, 2, 2, 3]],
-        HelpStatus::BadFrame { offset: 52 },
-        &[&OUT_OF_TURN],
-    ),
-    (
-        &[&STREAM, &[0x24, 0, 2, 0, 2]],
-        HelpStatus::BadFrame { offset: 52 },
-        &[&OUT_OF_TURN],
-    ),
-    (
-        &[&STREAM, &[0x24, 0, 2, 0, 9]],
-        HelpStatus::BadFrame { offset: 52 },
-        &[&OUT_OF_TURN],
-    ),
-    (
-        &[&[1, 0, 2, 1, 2], &ASK_SUCC_1],
+        &[&[1, 0, 2, 1, 2], &SUCC_1],
         HelpStatus::BadFrame { offset: 5 },
         &[&OUT_OF_TURN],
     ),
@@ -247,7 +138,7 @@ const REFUSED: [Talk; 8] = [
 ];
 
 // Each talk, in pieces of one byte and in one piece.
-fn are_served(rt: &impl Abort, alloc: Global, talks: &[Talk]) {
+fn are_served(rt: &impl Abort, alloc: Global, talks: &[Talk<'_, HelpStatus>]) {
     let unserved = first_unserved::<Helper>(alloc, talks).expect(rt, "memory");
     assert_eq!(rt; unserved, None);
 }
@@ -264,7 +155,12 @@ fn what_may_not_come_while_a_question_is_open(rt: HostRuntime) {
 
 #[test]
 fn questions_that_cannot_be_asked(rt: HostRuntime) {
-    are_served(&rt, rt.alloc(), &REFUSED);
+    let end = HelpStatus::BadFrame { offset: 52 };
+    for ask in &REFUSED {
+        let parts: [&[u8]; 2] = [&STREAM, ask];
+        are_served(&rt, rt.alloc(), &[(&parts, end, &[&OUT_OF_TURN])]);
+    }
+    are_served(&rt, rt.alloc(), &EARLY);
 }
 
 // ---- how many of each
@@ -274,8 +170,6 @@ fn questions_that_cannot_be_asked(rt: HostRuntime) {
 const NOTHING: [u8; 8] = [1, 0, 2, 1, 1, 3, 0, 0];
 
 const ASK_INDEX_0: [u8; 12] = [0x21, 0, 9, 1, 0, 0, 0, 0, 0, 0, 0, 0];
-
-const FOUND_0: [u8; 12] = [0x22, 0, 9, 1, 0, 0, 0, 0, 0, 0, 0, 0];
 
 const SUB_0_0: [u8; 12] = [4, 0, 9, 1, 0, 0, 0, 0, 0, 0, 0, 0];
 

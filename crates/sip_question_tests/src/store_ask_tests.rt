@@ -3,14 +3,14 @@
 ghost use Rattle.std.specs.Prelude.{◌≤◌, length};
 ghost use Rattle.sip_wire.specs.Table.{most_queries};
 
-use crate::asking::{Numbers, Outcome, asked};
+use crate::asking::{Numbers, asked};
 use crate::facts::expect;
-use crate::question_ask_tests::{Kind, numbers_of_four, wanted};
-use crate::question_serve_tests::{ASK_SUCC_1, BYE, CUBES, F2, HEAVY_4, REVEALED, SUB_1_2};
+use crate::kinds::{
+    HEAVY, INDEX, Kind, MOMENT, PRED, SQUARE, SUB, SUCC, SUM_1_3, asked_by, numbers_of_four, wanted,
+};
 use crate::store_tests::{HELD_3, HELD_4, OPEN, RECALL_3, RECORDS, served};
+use sip_check_tests::frames::{BYE, F2, INDEX_1, PRED_1, REVEAL, SUB_1_2, SUCC_1};
 use sip_field::{Field, M61};
-use sip_lookup::Lookup;
-use sip_moments::Moment;
 use sip_questions::{Question, StoreStatus};
 use sip_stream::Form;
 use sip_vector::{Depth, Query, Side};
@@ -186,64 +186,33 @@ const INNER: [u8; 4] = [4, 0, 1, 4];
 
 const SHARE_1_2: [u8; 13] = [4, 0, 10, 6, 0, 0, 0, 0, 1, 0, 0, 0, 2];
 
-const ASK_INDEX_1: [u8; 12] = [0x21, 0, 9, 1, 0, 0, 0, 0, 0, 0, 0, 1];
-
-const ASK_PRED_1: [u8; 12] = [0x21, 0, 9, 2, 0, 0, 0, 0, 0, 0, 0, 1];
-
-const KINDS: [Kind; 10] = [
+const WIDE_KINDS: [Kind; 10] = [
     Kind {
-        question: Question::Query(Query::Sub { lo: 1, hi: 2 }),
-        said: &[&WIDE_SUB_1_2, &REVEALED],
-        line: b"sub:1:2 2:5\n",
+        said: &[&WIDE_SUB_1_2, &REVEAL],
+        ..SUB
     },
     Kind {
-        question: Question::Lookup(Lookup::Succ(1)),
-        said: &[&ASK_SUCC_1, &WIDE_SUB_1_2, &REVEALED],
-        line: b"succ:1 2:5\n",
+        said: &[&SUCC_1, &WIDE_SUB_1_2, &REVEAL],
+        ..SUCC
+    },
+    MOMENT,
+    SQUARE,
+    Kind {
+        said: &[&INDEX_1, &WIDE_SUB_1_1, &REVEAL],
+        ..INDEX
+    },
+    HEAVY,
+    Kind {
+        said: &[&PRED_1, &WIDE_SUB_0_1, &REVEAL],
+        ..PRED
     },
     Kind {
-        question: Question::Moment(Moment {
-            side: Side::First,
-            degree: 3,
-        }),
-        said: &[&CUBES, &REVEALED],
-        line: b"moment:0:3 153\n",
-    },
-    Kind {
-        question: Question::Query(Query::F2 { side: Side::First }),
-        said: &[&F2, &REVEALED],
-        line: b"f2:0 35\n",
-    },
-    Kind {
-        question: Question::Lookup(Lookup::Index(1)),
-        said: &[&ASK_INDEX_1, &WIDE_SUB_1_1, &REVEALED],
-        line: b"index:1 0\n",
-    },
-    Kind {
-        question: Question::Query(Query::Heavy {
-            side: Side::First,
-            at_least: 4,
-        }),
-        said: &[&HEAVY_4, &REVEALED],
-        line: b"heavy:0:4 2:5\n",
-    },
-    Kind {
-        question: Question::Lookup(Lookup::Pred(1)),
-        said: &[&ASK_PRED_1, &WIDE_SUB_0_1, &REVEALED],
-        line: b"pred:1 0:3\n",
-    },
-    Kind {
-        question: Question::Query(Query::Range {
-            side: Side::First,
-            lo: 1,
-            hi: 3,
-        }),
-        said: &[&WIDE_RANGE_1_3, &REVEALED],
-        line: b"range:0:1:3 6\n",
+        said: &[&WIDE_RANGE_1_3, &REVEAL],
+        ..SUM_1_3
     },
     Kind {
         question: Question::Query(Query::Inner),
-        said: &[&INNER, &REVEALED],
+        said: &[&INNER, &REVEAL],
         line: b"inner 11\n",
     },
     Kind {
@@ -252,38 +221,10 @@ const KINDS: [Kind; 10] = [
             num: 1,
             den: 2,
         }),
-        said: &[&SHARE_1_2, &REVEALED],
+        said: &[&SHARE_1_2, &REVEAL],
         line: b"share:0:1:2 2:5\n",
     },
 ];
-
-// Asks these questions of a helper that replies so, in pieces of that size.
-fn asked_wide(
-    alloc: Global,
-    questions: &[Question],
-    replies: Vec<u8>,
-    chunk: usize,
-) -> Result<Outcome, Fail>
-    requires few { length questions.now ≤ most_queries }
-    requires chunk { 1 ≤ chunk }
-{
-    let depth = Depth::new(2).unwrap();
-    let block = [M61::of(2), M61::of(10)];
-    let numbers = Numbers {
-        second: M61::of_signed(-118),
-        ..numbers_of_four()
-    };
-    asked(
-        alloc,
-        Version::Two,
-        depth,
-        &block,
-        &numbers,
-        questions,
-        replies,
-        chunk,
-    )
-}
 
 // The helper says what it holds of the records that are asked for, hears what is asked, and its
 // replies are accepted, in pieces of that size.
@@ -302,7 +243,11 @@ fn check_talk(
     talk.extend_from_slice(&said)?;
     let (end, sent) = served(alloc, (Form::Text, LINES, &talk), chunk, (&[], &[]))?;
     let replies = behind(alloc, &sent, &HELD_6)?;
-    let came = asked_wide(alloc, questions, replies, chunk)?;
+    let numbers = Numbers {
+        second: M61::of_signed(-118),
+        ..numbers_of_four()
+    };
+    let came = asked_by(alloc, Version::Two, &numbers, questions, replies, chunk)?;
     let facts = [
         end == StoreStatus::Served,
         sent.starts_with(&HELD_6),
@@ -323,7 +268,7 @@ fn check_behind(rt: &impl Abort, alloc: Global, one: &Kind, two: &Kind) -> Resul
         &[one, two],
         10_000,
     )?;
-    for three in &KINDS {
+    for three in &WIDE_KINDS {
         let questions = [one.question, two.question, three.question];
         check_talk(rt, alloc, &questions, &[one, two, three], 10_000)?;
     }
@@ -332,8 +277,8 @@ fn check_behind(rt: &impl Abort, alloc: Global, one: &Kind, two: &Kind) -> Resul
 
 #[test]
 fn each_kind_is_asked_of_a_store_behind_each_other(rt: HostRuntime) -> Result<(), Fail> {
-    for one in &KINDS {
-        for two in &KINDS {
+    for one in &WIDE_KINDS {
+        for two in &WIDE_KINDS {
             check_behind(&rt, rt.alloc(), one, two)?;
         }
     }
@@ -342,7 +287,7 @@ fn each_kind_is_asked_of_a_store_behind_each_other(rt: HostRuntime) -> Result<()
 
 #[test]
 fn every_kind_is_asked_of_a_store_in_pieces(rt: HostRuntime) -> Result<(), Fail> {
-    let [a, b, c, d, e, f, g, h, i, j] = &KINDS;
+    let [a, b, c, d, e, f, g, h, i, j] = &WIDE_KINDS;
     let questions = [
         a.question, b.question, c.question, d.question, e.question, f.question, g.question,
         h.question, i.question, j.question, a.question, b.question, c.question, d.question,

@@ -2,11 +2,12 @@
 ghost use Rattle.std.specs.Prelude.{◌≤◌};
 
 use crate::facts::expect;
-use crate::question_serve_tests::{
-    ASK_SUCC_1, BYE, CUBES, END, ENTRY, F2, FOUND_2, LAST, NINE, NO_SIBLINGS, OUT_OF_TURN,
-    REVEALED, SQUARES, SUB_1_2, SUM,
-};
+use crate::question_serve_tests::END;
 use sip_check_tests::events::sent_in;
+use sip_check_tests::frames::{
+    BYE, CUBES, ENTRY, F2, FOUND_2, LAST, NINE, NO_SIBLINGS, OUT_OF_TURN, REVEAL, SQUARES, SUB_1_2,
+    SUCC_1, SUM,
+};
 use sip_field::OutOfMemory;
 use sip_ports::{MemoryLink, MemorySource};
 use sip_questions::{StoreStatus, serve_store};
@@ -85,16 +86,7 @@ const SERVED: [Row; 9] = [
         Form::Binary,
         &RECORDS,
         &[
-            &OPEN,
-            &RECALL_3,
-            &SUB_1_2,
-            &REVEALED,
-            &CUBES,
-            &REVEALED,
-            &ASK_SUCC_1,
-            &F2,
-            &REVEALED,
-            &BYE,
+            &OPEN, &RECALL_3, &SUB_1_2, &REVEAL, &CUBES, &REVEAL, &SUCC_1, &F2, &REVEAL, &BYE,
         ],
         StoreStatus::Served,
         &[
@@ -111,7 +103,7 @@ const SERVED: [Row; 9] = [
     (
         Form::Binary,
         &RECORDS,
-        &[&OPEN, &RECALL_2, &SUB_1_2, &REVEALED, &BYE],
+        &[&OPEN, &RECALL_2, &SUB_1_2, &REVEAL, &BYE],
         StoreStatus::Served,
         &[&HELD_2, &ENTRY_OF_2, &NO_SIBLINGS],
     ),
@@ -132,7 +124,7 @@ const SERVED: [Row; 9] = [
     (
         Form::Text,
         &[],
-        &[&OPEN, &RECALL_3, &ASK_SUCC_1, &BYE],
+        &[&OPEN, &RECALL_3, &SUCC_1, &BYE],
         StoreStatus::Served,
         &[&HELD_0, &FOUND_NONE],
     ),
@@ -140,7 +132,7 @@ const SERVED: [Row; 9] = [
     (
         Form::Text,
         b"?\n",
-        &[&OPEN, &RECALL_0, &ASK_SUCC_1, &BYE],
+        &[&OPEN, &RECALL_0, &SUCC_1, &BYE],
         StoreStatus::Served,
         &[&HELD_0, &FOUND_NONE],
     ),
@@ -282,7 +274,7 @@ const STOPPED: [Row; 13] = [
     (
         Form::Text,
         LINES,
-        &[&OPEN, &RECALL_3, &SUB_1_2, &ASK_SUCC_1],
+        &[&OPEN, &RECALL_3, &SUB_1_2, &SUCC_1],
         StoreStatus::BadFrame { offset: 28 },
         &[&HELD_3, &ENTRY, &OUT_OF_TURN],
     ),

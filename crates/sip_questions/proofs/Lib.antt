@@ -3,7 +3,7 @@ pub mod EnoughRoom
 mod HelperKept
 mod NextAsked
 mod QuestionsLeft
-mod Refusals
+pub mod Refusals
 mod Refused
 pub mod PromisedRuns
 mod SeatAsks

@@ -11,6 +11,7 @@ use crate::facts::expect;
 use crate::following_tests::UPDATES;
 use crate::passing::{begun_of, ended};
 use sip_check_tests::events::sent_in;
+use sip_check_tests::sizes::piece_of;
 use sip_field::{Field, M61};
 use sip_helper::HelpStatus;
 use sip_lookup::{LookAnswer, Lookup};
@@ -34,20 +35,6 @@ const QUESTIONS: [Question; 4] = [
     }),
     Question::Query(Query::F2 { side: Side::First }),
 ];
-
-// What was said by one end and heard by the other, up to there.
-fn next_piece(said: &[u8], heard: usize, size: usize) -> &[u8] {
-    let rest = if heard < said.len() {
-        &said[heard..]
-    } else {
-        &[]
-    };
-    if size < rest.len() {
-        &rest[..size]
-    } else {
-        rest
-    }
-}
 
 // The next question, before anything was said.
 fn next_asking(alloc: Global, to_ask: &mut ToAsk) -> Result<Option<QuestionAsking>, Fail>
@@ -102,9 +89,9 @@ fn exchange(
     for _turn in 0..150 {
         asking.due(&mut link)?;
         let said = sent_in(alloc, link.talk())?;
-        let count = serving.feed(next_piece(&said, passed, size), &mut replies);
+        let count = serving.feed(piece_of(&said, passed, size), &mut replies);
         passed = passed.saturating_add(count);
-        let count = asking.feed(next_piece(replies.bytes(), heard, size));
+        let count = asking.feed(piece_of(replies.bytes(), heard, size));
         heard = heard.saturating_add(count);
     }
     Ok(())

@@ -20,6 +20,7 @@ use sip_moments::is_too_high;
 use sip_questions::Question;
 use sip_vector::{CAP, Query, Side, Update, is_wide, share_of};
 use sip_verifier::{Running, Status, Weights};
+use std::alloc::Global;
 
 // Whether the answer to a query may have more entries than a reply has room for.
 fn is_too_wide(query: &Query, running: &Running) -> bool
@@ -47,14 +48,17 @@ pub struct RunSeat {
 }
 
 impl RunSeat {
-    /// The seat of a question with these challenges, before any update.
-    pub(crate) fn begin(question: Question, block: Seat<M61, CAP>) -> RunSeat
+    /// The seat of a question with these challenges, before any update. It keeps their tables,
+    /// where there is memory for them.
+    pub(crate) fn begin(alloc: Global, question: Question, block: Seat<M61, CAP>) -> RunSeat
         ensures question { result.question ≡ question }
         ensures block { block_of result.running ≡ block }
         ensures seated { (version : AnyVersion) (depth : ℕ) → CanPose version depth question
             → length block ≡ depth → IsSeated version depth [] result }
     {
-        let running = Running::begin(&question.query_like(), block);
+        let mut running = Running::begin(&question.query_like(), block);
+        // They are for speed alone: a seat that has none makes them on the stack, for each block.
+        let _ = running.keep_tables(alloc);
         RunSeat { question, running }
     }
 

@@ -23,7 +23,8 @@ use sip_wire::MOST_ROWS;
 use std::alloc::Global;
 
 /// The seats of these questions with these challenges, `depth` for each in order, before any
-/// update.
+/// update. Each keeps the tables of its challenges, where there is memory for them: 2 KiB for eight
+/// levels, and 4 where large entries are asked for.
 pub(crate) fn begin_seats(
     alloc: Global,
     depth: Depth,
@@ -47,7 +48,7 @@ pub(crate) fn begin_seats(
         let Some(block) = Seat::of(&challenges[first..first + levels]) else {
             unreachable!()
         };
-        let Ok(()) = seats.push(RunSeat::begin(*question, block)) else {
+        let Ok(()) = seats.push(RunSeat::begin(alloc, *question, block)) else {
             return Err(OutOfMemory);
         };
     }
@@ -74,8 +75,7 @@ fn raise(seats: &mut [RunSeat], side: Side, updates: &[Update])
 /// Adds updates to each seat that they concern.
 ///
 /// They are split by side once. Then an update takes, for each seat that it concerns, one look-up
-/// and one multiplication for each seven levels; their tables are made once for a call, a side and
-/// a seat, on the stack. No memory.
+/// and one multiplication for each eight levels, by the tables that the seat keeps. No memory.
 #[inline(never)]
 pub(crate) fn raise_all(seats: &mut [RunSeat], updates: &[Update])
     requires most { length updates.now ≤ most_rows }

@@ -62,10 +62,11 @@ fn by_query(status: Status, helpers: u8) -> Status
     }
 }
 
-/// Draws the challenges of all seats, and sends the stream to each helper. The seats are left in
-/// `gathered`, as they are where the steps stop, and which sides of the stream had a delta below 0
-/// in `negatives`.
+/// Draws the challenges of all seats, which keep their tables, and sends the stream to each helper.
+/// The seats are left in `gathered`, as they are where the steps stop, and which sides of the
+/// stream had a delta below 0 in `negatives`.
 fn gather_all<A: Source, B: Source>(
+    alloc: Global,
     wide: &Task,
     first: &mut A,
     second: &mut B,
@@ -98,6 +99,8 @@ fn gather_all<A: Source, B: Source>(
     *negatives = Negatives::default();
     draw(wide, second, gathered)?;
     if let Ok(seats) = gathered {
+        // Tables are for speed alone: a panel goes on without those that there is no memory for.
+        let _ = seats.keep_tables(alloc);
         let weights = follow_all(wide, seats, first, links)?;
         *negatives = seats.heavy_negatives(&weights);
     }
@@ -149,7 +152,7 @@ fn begin<A: Source, B: Source>(
     let levels = wide.depth.get();
     prove!(levels <= Depth::MOST);
     let mut gathered = Err(Status::SeedSpent);
-    gather_all(wide, first, second, links, &mut gathered, negatives)?;
+    gather_all(alloc, wide, first, second, links, &mut gathered, negatives)?;
     match open_session(alloc, wide.version(), &mut gathered) {
         Ok(session) => Ok(session),
         Err(status) => Err(by_query(status, links.len() as u8)),
@@ -224,8 +227,8 @@ fn status_of(steps: Result<(), Status>) -> Status
 /// The answers are those of a run over one helper, but for these: `Rejected` where every helper was
 /// dropped, with the place of the last fault, whose line was written before; no fault of the peer,
 /// since the links count none; and no fault of a record of the talk, since none is kept. `TooWide`
-/// names the query. The memory is that of [`Session::new`] for a query for each seat; the time is
-/// that of a run for each helper.
+/// names the query. The memory is that of a run with a query for each seat; the time is that of a
+/// run for each helper.
 ///
 /// `negatives` gets which sides of the stream had a delta below 0, of those whose large entries are
 /// asked for, as a run tells it.

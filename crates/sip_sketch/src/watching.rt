@@ -87,9 +87,8 @@ pub fn watch<A: Source, D: Desk>(
     let Ok(mut block) = vec![in alloc; Update::default(); MOST_UPDATES] else {
         return SketchStatus::OutOfMemory;
     };
-    if sketch.keep_tables(alloc).is_err() {
-        return SketchStatus::OutOfMemory;
-    }
+    // Tables are for speed alone: a watch goes on without those that there is no memory for.
+    let _ = sketch.keep_tables(alloc);
     let (passed, pause) = pass_over(sketch.depth(), form, records - start, first, &mut block);
     match pause {
         Pause::Full => follow(&mut sketch, &mut file, &mut block, form, every, first, desk),

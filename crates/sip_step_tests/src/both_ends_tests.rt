@@ -1,9 +1,9 @@
 // A question and a helper that pass each other their bytes in pieces of many sizes.
 use crate::asking::begun;
 use crate::facts::expect;
-use crate::serving_tests::STREAM;
-use crate::sizes::{Sizes, piece_of};
 use sip_check_tests::events::sent_in;
+use sip_check_tests::frames::STREAM;
+use sip_check_tests::sizes::{Sizes, piece_of};
 use sip_helper::HelperCore;
 use sip_ports::{MemoryLink, MemorySink};
 use sip_replies::Said;

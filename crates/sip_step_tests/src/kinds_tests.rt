@@ -1,11 +1,11 @@
 // Questions of every kind without a link, over talks that were worked out by hand.
-use crate::frames::{
+use crate::kinds::asked;
+use crate::pieces::{Row, cut_in_two, in_pieces};
+use sip_check_tests::frames::{
     CUBES, ENTRY, ENTRY_0, F2, FOUND_0, FOUND_1, FOUND_2, FOUND_NONE, HEAVY_4, INDEX_1, LAST,
     LEAVES, LEFT_3, NINE, NO_SIBLINGS, NODES, PRED_1, RANGE, REVEAL, RIGHT_7, SIX, SQUARES,
     SUB_0_1, SUB_1_1, SUB_1_2, SUB_1_3, SUCC_1, SUM, THREES, TWO_ENTRIES,
 };
-use crate::kinds::asked;
-use crate::pieces::{Row, cut_in_two, in_pieces};
 use sip_lookup::Lookup;
 use sip_moments::Moment;
 use sip_questions::Question;

@@ -11,8 +11,6 @@ mod both_ends_tests;
 #[cfg(test)]
 mod facts;
 #[cfg(test)]
-mod frames;
-#[cfg(test)]
 mod kinds;
 #[cfg(test)]
 mod kinds_tests;
@@ -26,5 +24,3 @@ mod question_talks_tests;
 mod serving;
 #[cfg(test)]
 mod serving_tests;
-#[cfg(test)]
-mod sizes;

@@ -7,46 +7,16 @@ ghost use Rattle.sip_steps.specs.Served.{HasBegun};
 
 use crate::facts::expect;
 use crate::kinds::{begun, said_of};
-use crate::serving_tests::STREAM;
-use crate::sizes::{Sizes, piece_of};
 use sip_check_tests::events::sent_in;
+use sip_check_tests::frames::{BYE, STREAM};
+use sip_check_tests::sizes::{Sizes, piece_of};
 use sip_helper::HelpStatus;
-use sip_lookup::Lookup;
-use sip_moments::Moment;
 use sip_ports::{MemoryLink, MemorySink};
-use sip_questions::{Question, QuestionCore};
+use sip_question_tests::kinds::{KINDS, wanted};
+use sip_questions::QuestionCore;
 use sip_steps::{QuestionAsking, Serving};
-use sip_vector::{Query, Side};
 use std::alloc::Global;
 use std::test::Fail;
-
-// The questions of one talk over (3, 0, 5, 1), and their lines.
-const QUESTIONS: [Question; 8] = [
-    Question::Query(Query::Sub { lo: 1, hi: 2 }),
-    Question::Lookup(Lookup::Succ(1)),
-    Question::Moment(Moment {
-        side: Side::First,
-        degree: 3,
-    }),
-    Question::Query(Query::F2 { side: Side::First }),
-    Question::Lookup(Lookup::Index(1)),
-    Question::Query(Query::Heavy {
-        side: Side::First,
-        at_least: 4,
-    }),
-    Question::Lookup(Lookup::Pred(1)),
-    Question::Query(Query::Range {
-        side: Side::First,
-        lo: 1,
-        hi: 3,
-    }),
-];
-
-const LINES: &[u8] = b"sub:1:2 2:5\nsucc:1 2:5\nmoment:0:3 153\nf2:0 35\nindex:1 0\nheavy:0:4 2:5\n\
-pred:1 0:3\nrange:0:1:3 6\n";
-
-// A Bye.
-const BYE: [u8; 3] = [6, 0, 0];
 
 // Passes the bytes of one question and of the helper to each other, for a number of turns that is
 // enough for any question here.
@@ -83,8 +53,8 @@ fn talked(alloc: Global, sizes: &mut Sizes) -> Result<(Vec<u8>, Option<HelpStatu
     let mut replies = MemorySink::new(alloc, 100, Vec::new(alloc));
     let mut lines = Vec::new(alloc);
     serving.feed(&STREAM, &mut replies);
-    for question in &QUESTIONS {
-        let Some(mut asking) = begun(alloc, *question)? else {
+    for kind in &KINDS {
+        let Some(mut asking) = begun(alloc, kind.question)? else {
             break;
         };
         exchange(alloc, &mut asking, &mut serving, sizes)?;
@@ -99,10 +69,8 @@ fn talked(alloc: Global, sizes: &mut Sizes) -> Result<(Vec<u8>, Option<HelpStatu
 // Whether all questions are answered, and the helper has served its talk.
 fn are_answered(alloc: Global, mut sizes: Sizes) -> Result<[bool; 2], Fail> {
     let (lines, status) = talked(alloc, &mut sizes)?;
-    Ok([
-        lines.as_slice() == LINES,
-        status == Some(HelpStatus::Served),
-    ])
+    let (_said, all) = wanted(alloc, &KINDS.each_ref())?;
+    Ok([lines == all, status == Some(HelpStatus::Served)])
 }
 
 #[test]

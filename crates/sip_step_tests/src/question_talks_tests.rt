@@ -1,21 +1,16 @@
 // A helper of questions without a link, over a talk of every kind in pieces of many sizes.
-use crate::frames::{
-    CUBES, ENTRY, ENTRY_0, F2, FOUND_0, FOUND_1, FOUND_2, HEAVY_4, INDEX_1, LAST, LEAVES, LEFT_3,
-    NINE, NO_SIBLINGS, NODES, PRED_1, RANGE, REVEAL, RIGHT_7, SIX, SQUARES, SUB_0_1, SUB_1_1,
-    SUB_1_2, SUCC_1, SUM, THREES,
-};
 use crate::pieces::{Row, cut_in_two, in_pieces};
-use crate::serving_tests::STREAM;
+use sip_check_tests::frames::{
+    BYE, CUBES, ENTRY, ENTRY_0, F2, FOUND_0, FOUND_1, FOUND_2, HEAVY_4, INDEX_1, LAST, LEAVES,
+    LEFT_3, NINE, NO_SIBLINGS, NODES, OUT_OF_TURN, PRED_1, RANGE, REVEAL, RIGHT_7, SIX, SQUARES,
+    STREAM, SUB_0_1, SUB_1_1, SUB_1_2, SUCC_1, SUM, THREES,
+};
 use sip_helper::HelpStatus;
 use sip_ports::MemorySink;
 use sip_questions::QuestionCore;
 use sip_steps::Serving;
 use std::alloc::Global;
 use std::test::Fail;
-
-const BYE: [u8; 3] = [6, 0, 0];
-
-const OUT_OF_TURN: [u8; 4] = [0x18, 0, 1, 4];
 
 // What the other end says, part by part, how the talk ends, and what is sent, part by part.
 struct TalkRow {

@@ -1,34 +1,13 @@
 // A helper without a link, over talks that were worked out by hand.
 use crate::pieces::{Row, cut_in_two, in_pieces};
 use crate::serving::served;
+use sip_check_tests::frames::{BYE, ENTRY, NO_SIBLINGS, OUT_OF_TURN, REVEAL, STREAM, SUB_1_2};
 use sip_helper::HelpStatus;
 use std::alloc::Global;
 use std::test::Fail;
 
-// The opening of a talk over four items, the vector (3, 0, 5, 1) and its end.
+// The opening of a talk over four items.
 const OPEN: [u8; 5] = [1, 0, 2, 1, 2];
-
-pub(crate) const STREAM: [u8; 52] = [
-    1, 0, 2, 1, 2, 2, 0, 41, 0, 3, 0, 0, 0, 0, 0, 0, 0, 0, 0, 0, 0, 0, 3, 0, 0, 0, 0, 2, 0, 0, 0,
-    0, 0, 0, 0, 5, 0, 0, 0, 0, 3, 0, 0, 0, 0, 0, 0, 0, 1, 3, 0, 0,
-];
-
-// The query for the entries 1 to 2, the challenge 2, and a Bye.
-const QUERY: [u8; 12] = [4, 0, 9, 1, 0, 0, 0, 1, 0, 0, 0, 2];
-
-const REVEAL: [u8; 11] = [5, 0, 8, 0, 0, 0, 0, 0, 0, 0, 2];
-
-const BYE: [u8; 3] = [6, 0, 0];
-
-// The entry (2, 5) and the siblings 3 and 1; then no siblings.
-const ENTRY: [u8; 37] = [
-    0x13, 0, 0x0e, 0, 1, 0, 0, 0, 2, 0, 0, 0, 0, 0, 0, 0, 5, 0x14, 0, 0x11, 3, 0, 0, 0, 0, 0, 0, 0,
-    3, 0, 0, 0, 0, 0, 0, 0, 1,
-];
-
-const NO_SIBLINGS: [u8; 4] = [0x14, 0, 1, 0];
-
-const OUT_OF_TURN: [u8; 4] = [0x18, 0, 1, 4];
 
 // What the other end says, part by part, whether it closes then, and which call of the sink fails;
 // what comes of it: how the talk ends, how many bytes are taken, and what is sent.
@@ -42,10 +21,20 @@ struct ServeRow {
     sent: &'static [&'static [u8]],
 }
 
+const NO_FRAME: ServeRow = ServeRow {
+    name: "a kind that no frame has",
+    said: &[&STREAM, &[9, 0, 0], &BYE],
+    closes: false,
+    fails: &[],
+    status: Some(HelpStatus::BadFrame { offset: 52 }),
+    taken: 55,
+    sent: &[],
+};
+
 const ROWS: &[ServeRow] = &[
     ServeRow {
         name: "a whole talk",
-        said: &[&STREAM, &QUERY, &REVEAL, &BYE],
+        said: &[&STREAM, &SUB_1_2, &REVEAL, &BYE],
         closes: false,
         fails: &[],
         status: Some(HelpStatus::Served),
@@ -54,7 +43,7 @@ const ROWS: &[ServeRow] = &[
     },
     ServeRow {
         name: "bytes behind a Bye are left",
-        said: &[&STREAM, &QUERY, &REVEAL, &BYE, &QUERY],
+        said: &[&STREAM, &SUB_1_2, &REVEAL, &BYE, &SUB_1_2],
         closes: true,
         fails: &[],
         status: Some(HelpStatus::Served),
@@ -63,7 +52,7 @@ const ROWS: &[ServeRow] = &[
     },
     ServeRow {
         name: "more is to come",
-        said: &[&STREAM, &QUERY, &REVEAL, &[6, 0]],
+        said: &[&STREAM, &SUB_1_2, &REVEAL, &[6, 0]],
         closes: false,
         fails: &[],
         status: None,
@@ -72,7 +61,7 @@ const ROWS: &[ServeRow] = &[
     },
     ServeRow {
         name: "the other end closes inside a frame",
-        said: &[&STREAM, &QUERY, &REVEAL, &[6, 0]],
+        said: &[&STREAM, &SUB_1_2, &REVEAL, &[6, 0]],
         closes: true,
         fails: &[],
         status: Some(HelpStatus::PeerClosed),
@@ -81,7 +70,7 @@ const ROWS: &[ServeRow] = &[
     },
     ServeRow {
         name: "a query before the stream",
-        said: &[&OPEN, &QUERY, &BYE],
+        said: &[&OPEN, &SUB_1_2, &BYE],
         closes: false,
         fails: &[],
         status: Some(HelpStatus::BadFrame { offset: 5 }),
@@ -90,34 +79,22 @@ const ROWS: &[ServeRow] = &[
     },
     ServeRow {
         name: "a challenge too many",
-        said: &[&STREAM, &QUERY, &REVEAL, &REVEAL, &BYE],
+        said: &[&STREAM, &SUB_1_2, &REVEAL, &REVEAL, &BYE],
         closes: false,
         fails: &[],
         status: Some(HelpStatus::BadFrame { offset: 75 }),
         taken: 86,
         sent: &[&ENTRY, &NO_SIBLINGS, &OUT_OF_TURN],
     },
-    ServeRow {
-        name: "a kind that no frame has",
-        said: &[&STREAM, &[9, 0, 0], &BYE],
-        closes: false,
-        fails: &[],
-        status: Some(HelpStatus::BadFrame { offset: 52 }),
-        taken: 55,
-        sent: &[],
-    },
+    NO_FRAME,
     ServeRow {
         name: "a length that the kind has not",
         said: &[&STREAM, &[5, 0, 9], &BYE],
-        closes: false,
-        fails: &[],
-        status: Some(HelpStatus::BadFrame { offset: 52 }),
-        taken: 55,
-        sent: &[],
+        ..NO_FRAME
     },
     ServeRow {
         name: "the sink fails at the first reply",
-        said: &[&STREAM, &QUERY, &REVEAL, &BYE],
+        said: &[&STREAM, &SUB_1_2, &REVEAL, &BYE],
         closes: false,
         fails: &[1],
         status: Some(HelpStatus::PeerFault),
@@ -126,7 +103,7 @@ const ROWS: &[ServeRow] = &[
     },
     ServeRow {
         name: "the sink fails inside the first reply",
-        said: &[&STREAM, &QUERY, &REVEAL, &BYE],
+        said: &[&STREAM, &SUB_1_2, &REVEAL, &BYE],
         closes: true,
         fails: &[3],
         status: Some(HelpStatus::PeerFault),

@@ -7,7 +7,6 @@ use Rattle.sip_ports.specs.Ports.{ins}
 use Rattle.sip_vector.specs.Steps.{◌>>=◌}
 use Rattle.sip_wire.specs.declared.kind.Place.TheVariants as places
 use Rattle.sip_wire.specs.declared.message.Message.{Message}
-use Rattle.sip_wire.specs.declared.message.Message.TheVariants as messages
 use Rattle.sip_wire.specs.declared.message.Reason.{Reason}
 use Rattle.sip_wire.specs.declared.message.Reason.TheVariants as reasons
 use Rattle.sip_wire.specs.declared.message.WireFault.{WireFault}
@@ -26,23 +25,8 @@ use Rattle.sip_replies.proofs.Framed.{AreFrames-one}
 use Rattle.sip_lookup.specs.Frames.{found_in, found_message, read_found}
 use Rattle.sip_lookup.specs.Hearing.{IsFound}
 use Rattle.sip_lookup.proofs.FoundFrames.{found_is}
-use Rattle.sip_lookup.proofs.FoundHeard.{fault_says}
+use Rattle.sip_lookup.proofs.FoundHeard.{fault_says, never_closed, place_says}
 use Rattle.sip_steps.specs.Looked.{IsShown, SaysFound}
-
--- a message says what it names
-place_says : (version : Version) (bytes : List ℕ) (m : Message) → read_frame version places.Found bytes ≡ Ok (m, []) → read_found version bytes ≡ (found_in m >>= λ place. Ok (place, []))
-unfolding read_found
-place_says version bytes m e = ap (λ (r : Result (Message × List ℕ) WireFault). reasoned r >>= λ frame. (found_in frame.0 >>= λ place. Ok (place, frame.1))) e
-
--- why a message names no place, it is not that the link ended
-never_closed : (m : Message) (reason : Reason) → found_in m ≡ Err reason → reason ≢ reasons.Closed
-never_closed (messages.Found flag index) reason e closed = absurd cc
-never_closed (messages.Refuse code) reason e closed =
-    let same : reasons.Refused code ≡ reason = cc in
-    let no = same ∙ closed in cc
-never_closed _ reason e closed =
-    let same : reasons.BadKind ≡ reason = cc in
-    let no = same ∙ closed in cc
 
 module _ (version : Version) (bytes : List ℕ) (most : length bytes ≤ asked version places.Found bytes) where
   -- no byte less shows it

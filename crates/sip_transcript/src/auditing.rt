@@ -81,6 +81,8 @@ fn begin<A: Source>(
     let elements = elements(challenges);
     let mut seats = Seats::given(task.depth, &task.queries, &elements);
     *negatives = Negatives::default();
+    // Tables are for speed alone: an audit goes on without those that there is no memory for.
+    let _ = seats.keep_tables(alloc);
     let weights = follow(task, &mut seats, first, &mut NullSink::new())?;
     *negatives = seats.heavy_negatives(&weights);
     match Session::boxed(alloc, version, seats) {

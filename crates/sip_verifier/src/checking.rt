@@ -150,10 +150,9 @@ fn gather_session<A: Source, B: Source, L: Link, C: Sink>(
     prove!(levels <= Depth::MOST);
     // Nothing is gathered yet. What is stays here until the session has it.
     let mut gathered = Err(Status::SeedSpent);
-    let mut tables = Tables::new(alloc);
-    let weights = gather(task, first, second, peer, keep, &mut tables, &mut gathered);
+    let tables = Tables::new(alloc);
+    let weights = gather(task, first, second, peer, keep, &tables, &mut gathered);
     *negatives = negatives_of(&gathered, &weights);
-    tables.check(&gathered)?;
     open_session(alloc, task.version(), &mut gathered)
 }
 
@@ -161,9 +160,9 @@ fn gather_session<A: Source, B: Source, L: Link, C: Sink>(
 /// `peer`, asks each query, judges the replies and writes a line for each to `report`.
 ///
 /// After a rejection its line is written and nothing more is sent. The memory is that of
-/// [`crate::Session::new`] and of [`Seats::keep_tables`], which don't grow with the stream; the time
-/// is linear in the stream and the replies, with one multiplication for each eight levels, record
-/// and query.
+/// [`crate::Session::new`] and, where there is more, of [`Seats::keep_tables`], and doesn't grow
+/// with the stream; the time is linear in the stream and the replies, with one multiplication for
+/// each eight levels, record and query.
 ///
 /// `keep` gets the run's transcript: its head before anything is said, and each frame's bytes as
 /// soon as they came, before they are judged; of a frame that the link's failure cut, it gets none.

@@ -182,10 +182,10 @@ fn stopped(gathered: &mut Result<Seats, Status>, status: Status) -> Weights
 /// where they were drawn, since they are too large to be moved about.
 ///
 /// There is no allocator here: what is kept of a stream has a fixed size, whatever its length. The
-/// one memory is that of `tables`, which the seats have as soon as they are drawn, and go on
-/// without where it is refused. They take the records in blocks of 512: the time for each record is
-/// one look-up and one multiplication for each eight levels and query. A frame is sent for each 512
-/// records, in one write.
+/// one memory is that of `tables`, which the seats have as soon as they are drawn; where it is
+/// refused they go on without, in more time. They take the records in blocks of 512: the time for
+/// each record is one look-up and one multiplication for each eight levels and query. A frame is
+/// sent for each 512 records, in one write.
 ///
 /// # Errors
 ///
@@ -200,7 +200,7 @@ pub fn gather<A: Source, B: Source, L: Link, C: Sink>(
     second: &mut B,
     peer: &mut L,
     keep: &mut C,
-    tables: &mut Tables,
+    tables: &Tables,
     gathered: &mut Result<Seats, Status>,
 ) -> Weights
     requires { CanBeDone task.now }

@@ -42,16 +42,20 @@ refused_before words m n less first second =
       | inr least ↦ (let one = (first.short least).0 in let other = (second.short (omega arith)).0 in omega arith)
     ]
 
--- words are refused at one number at most
-pub refused_once : (words : List (List ℕ)) (m n : ℕ) → IsRefusedAt words m → IsRefusedAt words n → m ≡ n
-refused_once words m n first second =
+-- what holds of no number and of a greater one holds of one number at most
+pub one_at_most : (P : ℕ → Type 0) → ((m n : ℕ) → m < n → P m → P n → ⊥) → (m n : ℕ) → P m → P n → m ≡ n
+one_at_most P never m n first second =
     elim (cases_lt m n) [
-      | inl less ↦ absurd (refused_before words m n less first second)
+      | inl less ↦ absurd (never m n less first second)
       | inr least ↦ elim (cases_lt n m) [
-        | inl more ↦ absurd (refused_before words n m more second first)
+        | inl more ↦ absurd (never n m more second first)
         | inr most ↦ omega arith
       ]
     ]
+
+-- words are refused at one number at most
+pub refused_once : (words : List (List ℕ)) (m n : ℕ) → IsRefusedAt words m → IsRefusedAt words n → m ≡ n
+refused_once words = one_at_most (IsRefusedAt words) (refused_before words)
 
 -- the verb of a command
 abbrev pub verb_of : Command → Verb

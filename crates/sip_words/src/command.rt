@@ -128,8 +128,8 @@ fn form_of(words: &Words, depth: Depth) -> Option<Form>
     Some(stream_of(words)?.form(depth))
 }
 
-// The depth that a word of this number gives.
-fn depth_at(words: &Words, number: usize) -> Option<Depth>
+/// The depth that the word of this number is: its one spelling, from 1 to 48.
+pub fn read_depth(words: &Words, number: usize) -> Option<Depth>
     ensures { MatchOption result
         (number < length words.now → (d : ℕ) → IsDepth d (word words.now number) → ⊥)
         (λ depth. (number < length words.now) × IsDepth depth (word words.now number)) }
@@ -159,7 +159,7 @@ fn read_all<Q: AskedWord>(
         → SeatsUpTo verb words.now most
         → Fitted verb words.now → IsRefusedAt words.now usage.word) }
 {
-    let Some(depth) = depth_at(words, last) else {
+    let Some(depth) = read_depth(words, last) else {
         return Err(Usage { word: last as u32 });
     };
     let Some(form) = form_of(words, depth) else {
@@ -334,7 +334,7 @@ fn read_gen(words: &Words) -> Result<Command, Usage>
     ensures refused { IfErr result (λ usage. Fitted Verb.Gen words.now
         → IsRefusedAt words.now usage.word) }
 {
-    let Some(depth) = depth_at(words, 3) else {
+    let Some(depth) = read_depth(words, 3) else {
         return Err(Usage { word: 3 });
     };
     if has_word(words, 4) {
@@ -351,7 +351,7 @@ fn read_copy(words: &Words) -> Result<(Form, Depth), Usage>
     ensures refused { IfErr result (λ usage. (verb : AnyVerb) → TakesStream verb
         → Fitted verb words.now → IsRefusedAt words.now usage.word) }
 {
-    let Some(depth) = depth_at(words, 2) else {
+    let Some(depth) = read_depth(words, 2) else {
         return Err(Usage { word: 2 });
     };
     let Some(form) = form_of(words, depth) else {

@@ -38,7 +38,7 @@ mod stream;
 mod verb;
 mod words;
 
-pub use command::{Command, read_words, verb_of};
+pub use command::{Command, read_depth, read_words, verb_of};
 pub use decimal::read_decimal;
 pub use helper_name::HelperName;
 pub use lookup::read_lookup;

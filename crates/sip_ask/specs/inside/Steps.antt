@@ -51,11 +51,11 @@ IsMarked s place old new (Err _) = ⊥
 
 -- for a question that takes this seat it was stored, if it was, before anything was said; for one
 -- that takes none nothing was
-abbrev pub Stores : SketchValues → Option ℕ → Option (List TalkEvent) → Option (List TalkEvent)
+abbrev pub StoresSeat : SketchValues → Option ℕ → Option (List TalkEvent) → Option (List TalkEvent)
     → Result (Unit {0}) AskStatus → Type 0
-Stores s None old new result = new ≡ old
-Stores s (Some place) old new (Ok _) = IsStored s place old new
-Stores s (Some place) old new (Err _) =
+StoresSeat s None old new result = new ≡ old
+StoresSeat s (Some place) old new (Ok _) = IsStored s place old new
+StoresSeat s (Some place) old new (Err _) =
     IsStoredInPart s place old new ⊎ IsStored s place old new
 
 -- ---- a question that is answered without being asked

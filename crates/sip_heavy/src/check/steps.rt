@@ -61,7 +61,7 @@ impl<F: Field, const CAP: usize> HeavyCheck<F, CAP> {
         ensures { result ≡ (is_above self.now.last index
             && nat_lt index (2 ^ (length self.now.challenges - self.now.level))) }
     {
-        let depth = self.root.seat.depth();
+        let depth = self.seat.depth();
         is_above(self.last, index) && is_within(index, depth - self.level)
     }
 
@@ -107,7 +107,7 @@ impl<F: Field, const CAP: usize> HeavyCheck<F, CAP> {
             && (nat_lt (self.now.level + 1) (length self.now.challenges)
             || not (is_empty self.now.nodes))) }
     {
-        let left = self.root.seat.depth() - self.level;
+        let left = self.seat.depth() - self.level;
         are_pairs(&self.nodes) && (left > 1 || !self.nodes.is_empty())
     }
 
@@ -128,10 +128,10 @@ impl<F: Field, const CAP: usize> HeavyCheck<F, CAP> {
             ≡ true }
         ensures { self.new ≡ folded F.MODULUS self.old }
     {
-        let depth = self.root.seat.depth();
+        let depth = self.seat.depth();
         prove!(self.level < depth);
         self.level += 1;
-        let r = self.root.seat.at(self.level);
+        let r = self.seat.at(self.level);
         self.known.clear();
         fold_pairs(&self.nodes, r, &mut self.known);
         self.nodes.clear();

@@ -29,9 +29,9 @@ pub returns-in-Help-clause-done : goal.returns-in-Help-clause-done
 returns-in-Help-clause-done g c =
     does _ c.in-Help.is
     (obeys _ c.in-Help.is c.help.ensures.help
-    (λ is. let said = c.help.ensures.said in
+    (λ is. let said = c.help.ensures.ends.said in
     tells _ _ is (λ some. some) said.0 said.1 [] (GoesOn-refl _) [] (GoesOn-refl _))
-    (c.help.ensures.fault _ _ _ _ _ _ _ _) c.help.ensures.listed)
+    (c.help.ensures.ends.fault _ _ _ _ _ _ _ _) c.help.ensures.ends.listed)
     (refl, refl, refl, refl)
 
 pub returns-in-Serve-clause-done : goal.returns-in-Serve-clause-done
@@ -105,9 +105,9 @@ pub returns-in-HelpLook-clause-done : goal.returns-in-HelpLook-clause-done
 returns-in-HelpLook-clause-done g c =
     does _ c.in-HelpLook.is
     (obeys _ c.in-HelpLook.is c.help_look.ensures.help
-    (λ is. let said = c.help_look.ensures.said in
+    (λ is. let said = c.help_look.ensures.ends.said in
     tells _ _ is (λ some. some) said.0 said.1 [] (GoesOn-refl _) [] (GoesOn-refl _))
-    (c.help_look.ensures.fault _ _ _ _ _ _ _ _) c.help_look.ensures.listed)
+    (c.help_look.ensures.ends.fault _ _ _ _ _ _ _ _) c.help_look.ensures.ends.listed)
     (refl, refl, refl, refl)
 
 pub returns-in-Moments-clause-done : goal.returns-in-Moments-clause-done
@@ -120,9 +120,9 @@ pub returns-in-HelpMoments-clause-done : goal.returns-in-HelpMoments-clause-done
 returns-in-HelpMoments-clause-done g c =
     does _ c.in-HelpMoments.is
     (obeys _ c.in-HelpMoments.is c.help_moments.ensures.help
-    (λ is. let said = c.help_moments.ensures.said in
+    (λ is. let said = c.help_moments.ensures.ends.said in
     tells _ _ is (λ some. some) said.0 said.1 [] (GoesOn-refl _) [] (GoesOn-refl _))
-    (c.help_moments.ensures.fault _ _ _ _ _ _ _ _) c.help_moments.ensures.listed)
+    (c.help_moments.ensures.ends.fault _ _ _ _ _ _ _ _) c.help_moments.ensures.ends.listed)
     (refl, refl, refl, refl)
 
 pub check_stream-requires : goal.check_stream-requires

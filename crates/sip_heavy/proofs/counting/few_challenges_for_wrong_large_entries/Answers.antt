@@ -7,7 +7,8 @@ use Rattle.sip_heavy.specs.declared.form.LeafForm.TheVariants as forms
 use Rattle.sip_heavy.specs.Counting.{asking_for}
 use Rattle.sip_heavy.proofs.FewBytes.{few_fooled_by_bytes}
 use Rattle.sip_heavy.proofs.LegalMarks.{legal_weighed, legal_weight, long_weights, same_length}
-use Rattle.sip_heavy.proofs.MarkLeaves.{long_marks, mark_leaves, marks_stand, marks_sum}
+use Rattle.sip_heavy.specs.HonestMarks.{mark_leaves}
+use Rattle.sip_heavy.proofs.MarkLeaves.{long_marks, marks_stand, marks_sum}
 use Rattle.sip_heavy.proofs.counting.few_challenges_for_wrong_large_entries.Goals as goal
 
 pub returns : goal.returns

@@ -2,7 +2,8 @@ use Rattle.std.proofs.Common.{◌∙◌}
 use Rattle.sip_heavy.specs.declared.form.LeafForm.TheVariants as forms
 use Rattle.sip_heavy.specs.Counting.{asking_for}
 use Rattle.sip_heavy.proofs.FewFooled.{few_fooled}
-use Rattle.sip_heavy.proofs.MarkLeaves.{long_marks, mark_leaves, marks_stand, marks_sum}
+use Rattle.sip_heavy.specs.HonestMarks.{mark_leaves}
+use Rattle.sip_heavy.proofs.MarkLeaves.{long_marks, marks_stand, marks_sum}
 use Rattle.sip_heavy.proofs.counting.few_challenges_for_wrong_marks.Goals as goal
 
 pub returns : goal.returns

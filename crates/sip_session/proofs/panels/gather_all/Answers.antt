@@ -1,5 +1,5 @@
 -- What each helper heard, by where the call stopped.
-use Rattle.std.proofs.Common.{◌≡◌, ◌<◌, None, arith, length, rules}
+use Rattle.std.proofs.Common.{◌≡◌, ◌<◌, None, arith, length, rules, subst, sym}
 use Rattle.std.proofs.lemmas.List.{length-map}
 use Rattle.std.proofs.lemmas.Result.{err_from_is_err_and}
 use Rattle.sip_stream.proofs.LegalRecords.{records_legal}
@@ -21,12 +21,12 @@ returns-in_err-draw-clause-gathers g c = λ bytes seed all told.
 
 pub returns-in_err-weights-clause-gathers : goal.returns-in_err-weights-clause-gathers
 returns-in_err-weights-clause-gathers g c = λ bytes seed all told.
-    let has : HasDrawn c.args.wide.now seed c.in-Ok.seats =
-    rw c.in-Ok.is at c.in_ok-draw.ensures.draws seed told in
+    let has = subst (HasDrawn c.args.wide.now seed) (sym c.keep_tables.ensures)
+    (rw c.in-Ok.is at c.in_ok-draw.ensures.draws seed told) in
     let p = err_from_is_err_and c.from_residual-in_err-weights.result
     c.from_residual-in_err-weights.ensures.1 in
     rw (p.1, p.2) (follow_stops c.args.wide.now bytes seed (g.A.Source.left c.follow_all.new.first)
-    c.in-Ok.seats has _ _ c.follow_all.new.seats c.in_err-weights.field-0.0
+    c.keep_tables.new.seats has _ _ c.follow_all.new.seats c.in_err-weights.field-0.0
     (rw c.in_err-weights.was at c.follow_all.ensures.hears bytes
     (blocks c.args.wide.now has.challenges) all has.stand))
 
@@ -39,9 +39,9 @@ returns-in_err-weights-clause-fault g c =
 
 pub returns-in_ok-weights-clause-gathers : goal.returns-in_ok-weights-clause-gathers
 returns-in_ok-weights-clause-gathers g c = λ bytes seed all told.
-    let has : HasDrawn c.args.wide.now seed c.in-Ok.seats =
-    rw c.in-Ok.is at c.in_ok-draw.ensures.draws seed told in
-    all_heard c.args.wide.now bytes seed _ c.in-Ok.seats has _ _ _
+    let has = subst (HasDrawn c.args.wide.now seed) (sym c.keep_tables.ensures)
+    (rw c.in-Ok.is at c.in_ok-draw.ensures.draws seed told) in
+    all_heard c.args.wide.now bytes seed _ c.keep_tables.new.seats has _ _ _
     (rw c.in_ok-weights.was at c.follow_all.ensures.hears bytes
     (blocks c.args.wide.now has.challenges) all has.stand)
 
@@ -80,8 +80,8 @@ returns-in_err-weights-clause-negatives g c = λ some bytes seed all told.
 pub returns-in_ok-weights-clause-negatives : goal.returns-in_ok-weights-clause-negatives
 returns-in_ok-weights-clause-negatives g c = λ some bytes seed all told.
     let wide = c.args.wide.now in
-    let has : HasDrawn wide seed c.in-Ok.seats =
-    rw c.in-Ok.is at c.in_ok-draw.ensures.draws seed told in
+    let has = subst (HasDrawn wide seed) (sym c.keep_tables.ensures)
+    (rw c.in-Ok.is at c.in_ok-draw.ensures.draws seed told) in
     let heard : 0 < length (talks_of c.args.links.now) =
     omega (arith, length-map c.args.links.now (λ l. l.kept.talk.items), some) in
     let passed = (rw c.in_ok-weights.was at c.follow_all.ensures.hears bytes

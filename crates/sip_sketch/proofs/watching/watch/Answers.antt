@@ -6,7 +6,10 @@ use Rattle.sip_ports.proofs.TalkLemmas.{GoesOn-refl}
 use Rattle.sip_vector.specs.declared.tally.Tally.{Tally}
 use Rattle.sip_sketch.specs.Risen.{HasRisen}
 use Rattle.sip_sketch.specs.declared.filling.Pause.TheVariants.{Full, Ended, Stopped}
+use Rattle.sip_sketch.specs.Sketches.{SketchValues, spelled_file}
 use Rattle.sip_sketch.specs.inside.Causes.{with_first, with_sketch}
+use Rattle.sip_sketch.specs.inside.Following.{status_of}
+use Rattle.sip_sketch.specs.inside.Keeping.{Closes}
 use Rattle.sip_sketch.proofs.Free.{closes_free}
 use Rattle.sip_sketch.proofs.Rises.{risen_since, stream_risen}
 use Rattle.sip_sketch.proofs.Watched.{added_to, ended_before, ready, stopped_before, unread}
@@ -33,8 +36,8 @@ returns-in-Full-clause-watches g c =
     let (passed, count, reads) = c.pass_over-passed.ensures.passed in
     let records = ap (λ (t : Tally). t.count) c.tally-records.ensures in
     added_to here (g.A.Source.left c.pass_over-passed.new.first) passed (omega (arith, records, count, c.pass_over-passed.ensures.full c.in-Full.is))
-    (λ bytes told. rw (c.depth.ensures, c.in-Full.is) at (reads bytes told))
-    (g.A.Source.left c.follow.new.first) (g.D.Sink.talk c.follow.new.desk) c.follow.result c.follow.ensures.adds
+    (λ bytes told. rw (c.depth.ensures, c.keep_tables.ensures, c.in-Full.is) at (reads bytes told))
+    (g.A.Source.left c.follow.new.first) (g.D.Sink.talk c.follow.new.desk) c.follow.result (rw c.keep_tables.ensures at c.follow.ensures.adds)
 
 pub returns-in-Full-clause-cause : goal.returns-in-Full-clause-cause
 returns-in-Full-clause-cause g c = λ before now.
@@ -51,7 +54,7 @@ returns-in-Ended-clause-watches g c =
     let fewer = c.pass_over-passed.ensures.fewer (λ full. let two : Ended ≡ Full = sym c.in-Ended.is ∙ full in absurd cc) in
     let mid = g.D.Sink.talk c.load_file.new.desk in
     ended_before here (g.A.Source.left c.pass_over-passed.new.first) (c.begins_at-start.result + c.pass_over-passed.result.0) passed
-    (omega (arith, count)) (omega (arith, records, fewer)) mid (GoesOn-refl mid) (λ bytes told. rw (c.depth.ensures, c.in-Ended.is) at (reads bytes told))
+    (omega (arith, count)) (omega (arith, records, fewer)) mid (GoesOn-refl mid) (λ bytes told. rw (c.depth.ensures, c.keep_tables.ensures, c.in-Ended.is) at (reads bytes told))
 
 pub returns-clause-watches : goal.returns-clause-watches
 returns-clause-watches g c =
@@ -64,8 +67,9 @@ returns-clause-watches g c =
     let place = c.begins_at-start.result + c.pass_over-passed.result.0 in
     let fewer = c.pass_over-passed.ensures.fewer (λ full. let two : Stopped fault ≡ Full = sym c.in-Stopped.is ∙ full in absurd cc) in
     stopped_before here (g.A.Source.left c.pass_over-passed.new.first) place passed (omega (arith, count)) (omega (arith, records, fewer))
-    (g.D.Sink.talk c.close.new.desk) fault c.close.result (λ bytes told. rw (c.depth.ensures, c.in-Stopped.is) at (reads bytes told))
-    (rw c.status_of-status.ensures at c.close.ensures.talk)
+    (g.D.Sink.talk c.close.new.desk) fault c.close.result (λ bytes told. rw (c.depth.ensures, c.keep_tables.ensures, c.in-Stopped.is) at (reads bytes told))
+    (subst (λ (s : SketchValues). Closes (g.D.Sink.talk c.load_file.new.desk) (g.D.Sink.talk c.close.new.desk) (spelled_file s) (status_of fault place) c.close.result) c.keep_tables.ensures
+    (rw c.status_of-status.ensures at c.close.ensures.talk))
 
 pub returns-clause-cause : goal.returns-clause-cause
 returns-clause-cause g c = λ before now.

@@ -40,7 +40,8 @@ returns-in_err-weights-clause-begins g c = λ bytes told.
     let task = c.args.task.now in
     let p = err_from_is_err_and c.from_residual.result c.from_residual.ensures.1 in
     let blocks = cut task.depth (map m61_number c.deref-2.result.now) in
-    let stand = subst (λ (queries : List Query). AreSeats task.depth queries blocks [] c.given-seats.result) c.deref.ensures.0 c.given-seats.ensures in
+    let given = subst (λ (queries : List Query). AreSeats task.depth queries blocks [] c.given-seats.result) c.deref.ensures.0 c.given-seats.ensures in
+    let stand = subst (AreSeats task.depth task.queries.items blocks []) (sym c.keep_tables.ensures) given in
     rw (p.1, p.2)
     (not_passed_on c.args.version task c.args.challenges.now bytes (g.A.Source.left c.follow.new.first) _ _ 0 0 0 0 0 0 None None c.in_err-weights.field-0.0 (c.in_err-weights.ensures.passes_on bytes blocks told stand) (c.in_err-weights.ensures.fault 0 0 0 0 0 0).1)
 
@@ -59,7 +60,8 @@ pub returns-in-Ok-clause-begins : goal.returns-in-Ok-clause-begins
 returns-in-Ok-clause-begins g c = λ bytes told.
     let task = c.args.task.now in
     let blocks = cut task.depth (map m61_number c.deref-2.result.now) in
-    let stand = subst (λ (queries : List Query). AreSeats task.depth queries blocks [] c.given-seats.result) c.deref.ensures.0 c.given-seats.ensures in
+    let given = subst (λ (queries : List Query). AreSeats task.depth queries blocks [] c.given-seats.result) c.deref.ensures.0 c.given-seats.ensures in
+    let stand = subst (AreSeats task.depth task.queries.items blocks []) (sym c.keep_tables.ensures) given in
     begun c.args.version task c.args.challenges.now bytes _ c.deref-2.result.now c.follow.new.seats c.in-Ok.session.value _ _
     (ap (map m61_number) c.deref-2.ensures.0 ∙ c.elements-elements.ensures) (c.in_ok-weights.ensures.passes_on bytes blocks told stand) c.in-Ok.ensures
 
@@ -67,7 +69,8 @@ pub returns-in-Err-TooWide-clause-begins : goal.returns-in-Err-TooWide-clause-be
 returns-in-Err-TooWide-clause-begins g c = λ bytes told.
     let task = c.args.task.now in
     let blocks = cut task.depth (map m61_number c.deref-2.result.now) in
-    let stand = subst (λ (queries : List Query). AreSeats task.depth queries blocks [] c.given-seats.result) c.deref.ensures.0 c.given-seats.ensures in
+    let given = subst (λ (queries : List Query). AreSeats task.depth queries blocks [] c.given-seats.result) c.deref.ensures.0 c.given-seats.ensures in
+    let stand = subst (AreSeats task.depth task.queries.items blocks []) (sym c.keep_tables.ensures) given in
     let same : c.in-Err-TooWide.field-0 ≡ starts.TooWide c.in-Err-TooWide.query = (let a = c.in-Err-TooWide.is in let b = c.in-Err-TooWide.field-0-is in cc) in
     wide c.args.version task c.args.challenges.now bytes _ blocks c.follow.new.seats c.in-Err-TooWide.query _ _ (c.in_ok-weights.ensures.passes_on bytes blocks told stand)
     (subst (λ (start : SessionStart). Starts c.args.version c.follow.new.seats (Err start)) same c.in-Err-TooWide.ensures)
@@ -84,7 +87,8 @@ pub returns-in-Ok-clause-negatives : goal.returns-in-Ok-clause-negatives
 returns-in-Ok-clause-negatives g c = λ bytes told.
     let task = c.args.task.now in
     let blocks = cut task.depth (map m61_number c.deref-2.result.now) in
-    let stand = subst (λ (queries : List Query). AreSeats task.depth queries blocks [] c.given-seats.result) c.deref.ensures.0 c.given-seats.ensures in
+    let given = subst (λ (queries : List Query). AreSeats task.depth queries blocks [] c.given-seats.result) c.deref.ensures.0 c.given-seats.ensures in
+    let stand = subst (AreSeats task.depth task.queries.items blocks []) (sym c.keep_tables.ensures) given in
     let passed = c.in_ok-weights.ensures.passes_on bytes blocks told stand in
     c.heavy_negatives.ensures task.depth task.queries.items blocks (legal task bytes) (records_legal task.depth task.form bytes).items passed.stand (c.in_ok-weights.ensures.weights bytes told)
 
@@ -92,7 +96,8 @@ pub returns-in-Err-TooWide-clause-negatives : goal.returns-in-Err-TooWide-clause
 returns-in-Err-TooWide-clause-negatives g c = λ bytes told.
     let task = c.args.task.now in
     let blocks = cut task.depth (map m61_number c.deref-2.result.now) in
-    let stand = subst (λ (queries : List Query). AreSeats task.depth queries blocks [] c.given-seats.result) c.deref.ensures.0 c.given-seats.ensures in
+    let given = subst (λ (queries : List Query). AreSeats task.depth queries blocks [] c.given-seats.result) c.deref.ensures.0 c.given-seats.ensures in
+    let stand = subst (AreSeats task.depth task.queries.items blocks []) (sym c.keep_tables.ensures) given in
     let passed = c.in_ok-weights.ensures.passes_on bytes blocks told stand in
     of_gathered task bytes _ _ (c.heavy_negatives.ensures task.depth task.queries.items blocks (legal task bytes) (records_legal task.depth task.form bytes).items passed.stand (c.in_ok-weights.ensures.weights bytes told))
 
@@ -100,6 +105,7 @@ pub returns-in-Err-OutOfMemory-clause-negatives : goal.returns-in-Err-OutOfMemor
 returns-in-Err-OutOfMemory-clause-negatives g c = λ bytes told.
     let task = c.args.task.now in
     let blocks = cut task.depth (map m61_number c.deref-2.result.now) in
-    let stand = subst (λ (queries : List Query). AreSeats task.depth queries blocks [] c.given-seats.result) c.deref.ensures.0 c.given-seats.ensures in
+    let given = subst (λ (queries : List Query). AreSeats task.depth queries blocks [] c.given-seats.result) c.deref.ensures.0 c.given-seats.ensures in
+    let stand = subst (AreSeats task.depth task.queries.items blocks []) (sym c.keep_tables.ensures) given in
     let passed = c.in_ok-weights.ensures.passes_on bytes blocks told stand in
     of_gathered task bytes _ _ (c.heavy_negatives.ensures task.depth task.queries.items blocks (legal task bytes) (records_legal task.depth task.form bytes).items passed.stand (c.in_ok-weights.ensures.weights bytes told))

@@ -1,10 +1,8 @@
 -- What was gathered is what the session is opened over.
-use Rattle.std.proofs.Common.{◌≡◌, ◌≤◌, ℕ, List, Some, arith, inr}
-use Rattle.std.proofs.lemmas.Result.{err_from_is_err_and}
+use Rattle.std.proofs.Common.{◌≡◌, ◌≤◌, ℕ, List, Some, arith}
 use Rattle.sip_vector.specs.Limits.{most_depth}
 use Rattle.sip_verifier.specs.Negatives.{gathered_negatives}
 use Rattle.sip_verifier.specs.Snapshots.{no_port}
-use Rattle.sip_verifier.specs.declared.session.SessionStart.TheVariants as starts
 use Rattle.sip_verifier.proofs.RunNegatives.{gathered_are}
 use Rattle.sip_verifier.proofs.SeatsHead.{gathered-speak}
 use Rattle.sip_verifier.proofs.checking.gather_session.Goals as goal
@@ -22,15 +20,3 @@ returns-clause-gathers g c =
     let keeps = c.gather-weights.ensures.keeps no_port no_port in
     gathered_are c.args.task.now bytes seed _ _ _ c.gather-weights.new.gathered c.gather-weights.result c.negatives_of.result (keeps.gathers bytes seed read drawn) (keeps.weights bytes read) c.negatives_of.ensures in
     (c.gather-weights.new.gathered, c.gather-weights.result, c.gather-weights.ensures.keeps, told, rw c.version.ensures at c.open_session.ensures)
-
--- no session is made where its seats have no tables
-pub returns-in_err-check-clause-gathers : goal.returns-in_err-check-clause-gathers
-returns-in_err-check-clause-gathers g c =
-    let told : (bytes seed : List ℕ) → g.A.Source.left c.args.first.now ≡ Some bytes → g.B.Source.left c.args.second.now ≡ Some seed
-    → c.negatives_of.result ≡ gathered_negatives c.args.task.now bytes c.gather-weights.new.gathered =
-    λ bytes seed read drawn.
-    let keeps = c.gather-weights.ensures.keeps no_port no_port in
-    gathered_are c.args.task.now bytes seed _ _ _ c.gather-weights.new.gathered c.gather-weights.result c.negatives_of.result (keeps.gathers bytes seed read drawn) (keeps.weights bytes read) c.negatives_of.ensures in
-    let p = err_from_is_err_and c.from_residual.result c.from_residual.ensures.1 in
-    let (short, seats, came) = c.in_err-check.ensures in
-    (c.gather-weights.new.gathered, c.gather-weights.result, c.gather-weights.ensures.keeps, told, rw (p.1, p.2) (inr (seats, starts.OutOfMemory, came, tt, short)))

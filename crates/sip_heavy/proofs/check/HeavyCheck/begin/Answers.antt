@@ -15,7 +15,7 @@ invariant_of-result g c =
 
 pub returns-clause-taken : goal.returns-clause-taken
 returns-clause-taken g c =
-    HasTaken-nothing g.F.Field.MODULUS _ c.args.root.now.hash c.args.root.now.seat _
-    (rw c.copy_of.ensures.seat refl)
+    HasTaken-nothing g.F.Field.MODULUS _ c.args.hash c.args.seat.now _
+    (rw c.copy_of.ensures refl)
     refl
-    c.copy_of.ensures.seat c.copy_of.ensures.hash refl c.clear.ensures.items c.clear-2.ensures.items refl refl c.clear-3.ensures.items
+    c.copy_of.ensures refl refl c.clear.ensures.items c.clear-2.ensures.items refl refl c.clear-3.ensures.items

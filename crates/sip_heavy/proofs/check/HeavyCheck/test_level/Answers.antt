@@ -13,7 +13,7 @@ returns-then-not-are_within g c =
     let whole = subst (λ (k : Kept). (are_pairs k.nodes && (nat_lt (k.level + 1) (length k.challenges) || not (is_empty k.nodes))) ≡ true) (sym c.self.view_is) (sym c.if-not-is_whole.ensures) in
     let heavy = rw c.deref.ensures.value at (sym c.if-not-are_heavy.ensures) in
     let within = rw c.deref-2.ensures.value at (sym c.if-not-are_within.ensures) in
-    subst (λ (k : Kept). ◌≡◌ {A = Result (Unit {0}) Reason} (Err reasons.Total) (end_test (asked_of k) k.level k.nodes)) c.self.view_is (sym (end_says (record { form = s.form; depth = length s.root.seat; at_least = s.at_least; total = s.total }) s.level s.nodes.items false whole heavy within))
+    subst (λ (k : Kept). ◌≡◌ {A = Result (Unit {0}) Reason} (Err reasons.Total) (end_test (asked_of k) k.level k.nodes)) c.self.view_is (sym (end_says (record { form = s.form; depth = length s.seat; at_least = s.at_least; total = s.total }) s.level s.nodes.items false whole heavy within))
 
 pub returns : goal.returns
 returns g c =
@@ -21,4 +21,4 @@ returns g c =
     let whole = subst (λ (k : Kept). (are_pairs k.nodes && (nat_lt (k.level + 1) (length k.challenges) || not (is_empty k.nodes))) ≡ true) (sym c.self.view_is) (sym c.if-not-is_whole.ensures) in
     let heavy = rw c.deref.ensures.value at (sym c.if-not-are_heavy.ensures) in
     let within = rw c.deref-2.ensures.value at (sym c.if-not-are_within.ensures) in
-    subst (λ (k : Kept). ◌≡◌ {A = Result (Unit {0}) Reason} (Ok tt) (end_test (asked_of k) k.level k.nodes)) c.self.view_is (sym (end_says (record { form = s.form; depth = length s.root.seat; at_least = s.at_least; total = s.total }) s.level s.nodes.items true whole heavy within))
+    subst (λ (k : Kept). ◌≡◌ {A = Result (Unit {0}) Reason} (Ok tt) (end_test (asked_of k) k.level k.nodes)) c.self.view_is (sym (end_says (record { form = s.form; depth = length s.seat; at_least = s.at_least; total = s.total }) s.level s.nodes.items true whole heavy within))

@@ -1,4 +1,4 @@
-use Rattle.std.proofs.Common.{◌≡◌, ◌^◌, ◌<◌, ℕ, drop, length, slice_get, Some, sym, ap, ◌∙◌, rules, tests, arith}
+use Rattle.std.proofs.Common.{◌≡◌, ◌^◌, ◌<◌, ℕ, drop, length, slice_get, Some, sym, ap, ◌∙◌, arith}
 use Rattle.std.specs.Option.{option_map}
 use Rattle.std.proofs.Math.Nat.{mod-eq_of_lt}
 use Rattle.std.proofs.lemmas.List.Elements.{All-drop}
@@ -14,6 +14,11 @@ returns-then-self-eq0-clause-first g c =
     let s = c.self.inside in
     sym (ap (λ (k : Proving). slice_get (from_on c.args.from (its_nodes k)) 0) (sym c.self.view_is) ∙ ap (λ xs. slice_get (from_on c.args.from xs) 0) (shown_of_root s.at_least s.levels_left s.is_leaf s.spots.items c.if-self-eq0.true))
 
+pub place_of-start-requires : goal.place_of-start-requires
+place_of-start-requires g c =
+    let rises = c.self.invariant.rises in
+    record { rises = (0, 2 ^ c.self.inside.levels_left, rw c.deref.ensures.value rises) }
+
 pub first_shown-requires-clause-small : goal.first_shown-requires-clause-small
 first_shown-requires-clause-small g c =
     let spots = c.self.inside.spots.items in
@@ -27,8 +32,8 @@ first_shown-requires-clause-rises g c =
 pub returns-in_err-node-clause-first : goal.returns-in_err-node-clause-first
 returns-in_err-node-clause-first g c =
     let s = c.self.inside in
-    let first = first_found g.F.Field.MODULUS s.at_least s.levels_left s.is_leaf c.args.from c.partition_point-start.result s.spots.items c.self.invariant c.if-self-eq0.false
-    (rw c.deref.ensures.value at c.partition_point-start.ensures.partitioned) (λ a r f called. search (rules, tests)) c.first_shown.result (rw c.deref-2.ensures.value at c.first_shown.ensures) c.args.self.now c.self.view_is in
+    let first = first_found g.F.Field.MODULUS s.at_least s.levels_left s.is_leaf c.args.from c.place_of-start.result s.spots.items c.self.invariant c.if-self-eq0.false
+    (rw c.deref.ensures.value at c.place_of-start.ensures.parts) c.first_shown.result (rw c.deref-2.ensures.value at c.first_shown.ensures) s.form c.args.self.now c.self.view_is in
     ap (option_map (node_of g.F.Field.number)) c.from_residual.ensures ∙ sym c.in_err-node.was ∙ first
 
 pub returns-clause-first : goal.returns-clause-first
@@ -36,10 +41,10 @@ returns-clause-first g c =
     let s = c.self.inside in
     let spots = s.spots.items in
     let from = c.args.from in
-    let start = c.partition_point-start.result in
+    let start = c.place_of-start.result in
     let found = rw c.deref-2.ensures.value at c.first_shown.ensures in
     let first = first_found g.F.Field.MODULUS s.at_least s.levels_left s.is_leaf from start spots c.self.invariant c.if-self-eq0.false
-    (rw c.deref.ensures.value at c.partition_point-start.ensures.partitioned) (λ a r f called. search (rules, tests)) c.first_shown.result found c.args.self.now c.self.view_is in
+    (rw c.deref.ensures.value at c.place_of-start.ensures.parts) c.first_shown.result found s.form c.args.self.now c.self.view_is in
     let node = c.in_ok-node.node in
     let p : ℕ = g.F.Field.MODULUS in
     let shown = sym found ∙ c.in_ok-node.was in
@@ -51,6 +56,6 @@ pub returns-clause-within : goal.returns-clause-within
 returns-clause-within g c =
     let s = c.self.inside in
     let now = c.args.self.now in
-    let first = first_found g.F.Field.MODULUS s.at_least s.levels_left s.is_leaf c.args.from c.partition_point-start.result s.spots.items c.self.invariant c.if-self-eq0.false
-    (rw c.deref.ensures.value at c.partition_point-start.ensures.partitioned) (λ a r f called. search (rules, tests)) c.first_shown.result (rw c.deref-2.ensures.value at c.first_shown.ensures) now c.self.view_is in
+    let first = first_found g.F.Field.MODULUS s.at_least s.levels_left s.is_leaf c.args.from c.place_of-start.result s.spots.items c.self.invariant c.if-self-eq0.false
+    (rw c.deref.ensures.value at c.place_of-start.ensures.parts) c.first_shown.result (rw c.deref-2.ensures.value at c.first_shown.ensures) s.form now c.self.view_is in
     (first_inside c.args.from 0 (length now.level) (its_nodes now) c.in_ok-node.node (nodes_rise now) (sym first ∙ c.in_ok-node.was)).1

@@ -1,5 +1,6 @@
 use Rattle.std.proofs.Common.{◌≡◌, ◌^◌, ◌<◌, ℕ, length, map, true, sym, ap, subst, ◌∙◌, arith}
 use Rattle.sip_vector.specs.Vectors.{nonzero}
+use Rattle.sip_heavy.specs.declared.form.LeafForm.TheVariants as forms
 use Rattle.sip_heavy.specs.Spots.{whole_level, leaf_of_entry, IsKept}
 use Rattle.sip_heavy.proofs.Kept.{whole_long}
 use Rattle.sip_heavy.proofs.Leaves.{leaves_rise, leaves_hashed, leaves_light, leaves_stand}
@@ -27,7 +28,7 @@ returns-clause-begun g c =
     let numbers = c.args.vector.now.numbers in
     let left : ℕ = c.get.result in
     let size : length numbers ≡ 2 ^ left = c.depth.ensures.numbers ∙ ap (λ d. 2 ^ d) (sym c.get.ensures.same) in
-    ap (λ l. record { at_least = c.args.at_least; is_leaf = true; level = l })
+    ap (λ l. record { form = forms.Count; at_least = c.args.at_least; is_leaf = true; level = l })
     (ap (λ xs. whole_level (2 ^ left) 0 xs) c.in_ok-spots.ensures ∙ ap (λ n. whole_level n 0 (map (leaf_of_entry p) (nonzero numbers))) (sym size) ∙ leaves_stand p some 0 numbers c.requires.strict)
 
 pub returns-clause-length : goal.returns-clause-length

@@ -1,5 +1,5 @@
 -- Bytes came that are too few for a look at the frame.
-use Rattle.std.proofs.Common.{◌≡◌, ◌-◌, ◌<◌, ◌≤◌, ◌++◌, true, List, ℕ, length, sym, subst}
+use Rattle.std.proofs.Common.{◌≡◌, ◌-◌, ◌<◌, ◌≤◌, ◌++◌, List, ℕ, length, sym, subst}
 use Rattle.sip_wire.specs.Frames.{frame_bytes}
 use Rattle.sip_wire.specs.Spelling.{asked as asked_length}
 use Rattle.sip_wire.specs.Taking.{room_for}

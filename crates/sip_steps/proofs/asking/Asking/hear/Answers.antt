@@ -1,5 +1,5 @@
 -- Bytes came while they were to come, and what came of each frame was looked at.
-use Rattle.std.proofs.Common.{◌≡◌, ◌++◌, List, length, sym, ap, subst, take, ◌∙◌, arith}
+use Rattle.std.proofs.Common.{◌++◌, List, length, sym, ap, subst, take, ◌∙◌, arith}
 use Rattle.std.proofs.lemmas.List.{with_items_is}
 use Rattle.std.specs.Prelude.{IsTrue}
 use Rattle.sip_ports.specs.Ports.{ins}

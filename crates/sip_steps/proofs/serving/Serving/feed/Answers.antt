@@ -1,5 +1,5 @@
 -- Bytes came that are too few for a look at the frame, or not.
-use Rattle.std.proofs.Common.{ℕ, ◌++◌, List, length, sym, subst, take}
+use Rattle.std.proofs.Common.{ℕ, ◌++◌, List, sym, subst}
 use Rattle.std.proofs.Math.Seq.{take-length}
 use Rattle.sip_ports.specs.declared.port.TalkEvent.{TalkEvent}
 use Rattle.sip_ports.specs.Ports.{ins}
