@@ -97,7 +97,7 @@ pub fn made_tables<F: Field, const CAP: usize>(
 }
 
 /// `start` times the product of an index, by the tables of all challenges: table g is that of the
-/// seven above level 8·g.
+/// eight above level 8·g.
 ///
 /// One `times` for each table.
 pub fn by_tables<F: Field>(start: F, tables: &[[u64; 256]], index: u64) -> F

@@ -56,14 +56,14 @@
 //!
 //! | Call | `times` | Beside it, for `M61` |
 //! |---|---|---|
-//! | `of`, `of_number`, `of_signed`, `loose_signed`, `shortened`, `number` | 0 | a few additions |
+//! | `of`, `of_number`, `of_signed`, `loose_signed`, `number` | 0 | a few additions |
 //! | `plus`, `minus` | 0 | a few additions |
 //! | `horner` of n coefficients | n | n `plus` |
 //! | `draw_one` | 0 | one word, and another for each that gives no challenge, eight at most |
 //! | `draw_next`, `draw_challenges` of n | 0 | n times `draw_one` |
 //! | `Seat::of` of n challenges | 0 | n copies |
 //! | `Seat::depth`, `Seat::at` | 0 | |
-//! | `fill_tables` | 127 for each eight challenges | as many `minus` for `Factors::Extension` |
+//! | `fill_tables` | 255 for each eight challenges | as many `minus` for `Factors::Extension` |
 //! | `by_tables`, `loosely_by_tables` of n tables | n | n look-ups |
 #![tactic(auto)]
 

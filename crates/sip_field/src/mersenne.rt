@@ -108,10 +108,6 @@ impl Field for M61 {
         high + low / 8
     }
 
-    fn shortened(x: u64) -> u64 {
-        (x & P) + (x >> 61)
-    }
-
     ghost odd = { refl };
 
     ghost at_least = { lit≤ tt };

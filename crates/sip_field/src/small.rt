@@ -89,10 +89,6 @@ impl Field for F31 {
         (x % P) * (eightfold / 8 % P)
     }
 
-    fn shortened(x: u64) -> u64 {
-        x % P
-    }
-
     ghost odd = { refl };
 
     ghost at_least = { lit≤ tt };
