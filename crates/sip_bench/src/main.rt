@@ -1,4 +1,4 @@
-//! Times the verifier's running numbers, its reader, a question whose reply comes in pieces, and
+//! Times the verifier's reader, its running numbers, a question whose reply comes in pieces, and
 //! the helper's vector, siblings and moments.
 //!
 //! Each word names a part and a depth, as `root-20`: a root over 2^20 items, fed by blocks of 512
@@ -37,6 +37,10 @@ fn line_of(clock: &impl Clock, alloc: Global, word: &str) -> io::Result<Line> {
         return Err(io::ErrorKind::InvalidInput.into());
     };
     match name {
+        "recordbytes" => streams::bytes(alloc, Part::RecordBytes, depth, Form::made(depth)),
+        "records" => streams::read(clock, alloc, Part::Records, depth, Form::made(depth)),
+        "textbytes" => streams::bytes(alloc, Part::TextBytes, depth, Form::Text),
+        "text" => streams::read(clock, alloc, Part::Text, depth, Form::Text),
         "updates" => Ok(blocks::updates(depth)),
         "root" => fed::<Root<M61, CAP>>(clock, alloc, Part::Root, depth, 1),
         "root16" => fed::<Root<M61, CAP>>(clock, alloc, Part::Roots16, depth, 16),
@@ -47,10 +51,6 @@ fn line_of(clock: &impl Clock, alloc: Global, word: &str) -> io::Result<Line> {
         "augroot" => fed::<AugRoot<M61, CAP>>(clock, alloc, Part::AugRoot, depth, 1),
         "augroot16" => fed::<AugRoot<M61, CAP>>(clock, alloc, Part::AugRoots16, depth, 16),
         "augroot64" => fed::<AugRoot<M61, CAP>>(clock, alloc, Part::AugRoots64, depth, 64),
-        "recordbytes" => streams::bytes(alloc, Part::RecordBytes, depth, Form::made(depth)),
-        "records" => streams::read(clock, alloc, Part::Records, depth, Form::made(depth)),
-        "textbytes" => streams::bytes(alloc, Part::TextBytes, depth, Form::Text),
-        "text" => streams::read(clock, alloc, Part::Text, depth, Form::Text),
         "vector" => Ok(vectors::vector(clock, alloc, depth)?.1),
         "siblings" => vectors::siblings(clock, alloc, depth),
         "moment3" => moments::prover(clock, alloc, Part::Moment3, depth, 3),
