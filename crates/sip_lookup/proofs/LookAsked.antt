@@ -63,30 +63,27 @@ module _ (version : Version) (depth : ℕ) (stream : List Update) (l : Lookup) (
   abbrev outer : List ℕ → List (List ℕ) → List (List ℕ)
   outer rest more = (bytes ++ rest) ∷ more
 
-  abbrev asks : List ℕ → List (List ℕ) → Question
-  asks rest more = question_of l block (outer rest more)
-
-  read : (rest : List ℕ) → read_found version (bytes ++ rest) ≡ Ok (found, rest)
-  read rest = found_more version bytes rest (found, []) reads
+  abbrev question : List ℕ → List (List ℕ) → Question
+  question rest more = question_of l block (outer rest more)
 
   split : (rest : List ℕ) (more : List (List ℕ)) → parts version (outer rest more) ≡ Ok (found, rest ∷ more)
-  split rest more = ap (λ (r : Result (Option ℕ × List ℕ) Reason). r >>= λ x. Ok (x.0, x.1 ∷ more)) (read rest)
+  split rest more = ap (λ (r : Result (Option ℕ × List ℕ) Reason). r >>= λ x. Ok (x.0, x.1 ∷ more)) (found_more version bytes rest (found, []) reads)
 
   said : (rest : List ℕ) (more : List (List ℕ))
-      → said_for version depth (asks rest more) ≡ sent version (ask_message l ∷ []) ++ (ins bytes ++ asked version (messages.Query (Sub lo hi)) block (rest ∷ more))
+      → said_for version depth (question rest more) ≡ sent version (ask_message l ∷ []) ++ (ins bytes ++ asked version (messages.Query (Sub lo hi)) block (rest ∷ more))
   said rest more =
-      ap (λ (r : Result (Option ℕ × List ℕ) Reason). sent version (ask_message l ∷ []) ++ said_behind version depth (asks rest more) (bytes ++ rest) more r) (read rest)
+      ap (λ (r : Result (Option ℕ × List ℕ) Reason). sent version (ask_message l ∷ []) ++ said_behind version depth (question rest more) (bytes ++ rest) more r) (found_more version bytes rest (found, []) reads)
       ∙ ap (λ (b : Bool). sent version (ask_message l ∷ []) ++ (if b then (ins (spelling version (found_message found)) ++ asked version (messages.Query (Sub lo hi)) block (rest ∷ more)) else ins (bytes ++ rest))) possible
       ∙ ap (λ (bs : List ℕ). sent version (ask_message l ∷ []) ++ (ins bs ++ asked version (messages.Query (Sub lo hi)) block (rest ∷ more))) (sym spelled)
 
   behind : {Holds : Option ℕ → List (List ℕ) → Type 0} (rest : List ℕ) (more : List (List ℕ)) → Holds found (rest ∷ more)
-      → IsBehindFound version depth stream Holds (asks rest more)
+      → IsBehindFound version depth stream Holds (question rest more)
   behind rest more holds = record { found = found; inner = rest ∷ more; split = split rest more; possible = possible; holds = holds }
 
   module _ (old mid new : Option (List TalkEvent)) (before : GoesOn old mid (sent version (ask_message l ∷ []) ++ ins bytes)) where
     -- the talk about the interval is the rest of the lookup's
     talk : (rest : List ℕ) (more : List (List ℕ)) (tail : List TalkEvent)
-        → GoesOn mid new (asked version (messages.Query (Sub lo hi)) block (rest ∷ more) ++ tail) → GoesOn old new (said_for version depth (asks rest more) ++ tail)
+        → GoesOn mid new (asked version (messages.Query (Sub lo hi)) block (rest ∷ more) ++ tail) → GoesOn old new (said_for version depth (question rest more) ++ tail)
     talk rest more tail went =
         let a = sent version (ask_message l ∷ []) in
         let q = asked version (messages.Query (Sub lo hi)) block (rest ∷ more) in
@@ -94,7 +91,7 @@ module _ (version : Version) (depth : ℕ) (stream : List Update) (l : Lookup) (
         (sym (append_assoc (a ++ ins bytes) q tail) ∙ ap (λ xs. xs ++ tail) (append_assoc a (ins bytes) q ∙ sym (said rest more)))
         (GoesOn-trans old mid new (a ++ ins bytes) (q ++ tail) before went)
 
-    whole_talk : (rest : List ℕ) (more : List (List ℕ)) → GoesOn mid new (asked version (messages.Query (Sub lo hi)) block (rest ∷ more)) → GoesOn old new (said_for version depth (asks rest more))
+    whole_talk : (rest : List ℕ) (more : List (List ℕ)) → GoesOn mid new (asked version (messages.Query (Sub lo hi)) block (rest ∷ more)) → GoesOn old new (said_for version depth (question rest more))
     whole_talk rest more went =
         subst (GoesOn old new) (append-nil _) (talk rest more [] (subst (GoesOn mid new) (sym (append-nil _)) went))
 
@@ -156,7 +153,7 @@ module _ (version : Version) (depth : ℕ) (stream : List Update) (l : Lookup) (
 
     -- a front of what is said about the interval is one of what is said for the lookup
     front : (rest : List ℕ) (more : List (List ℕ)) (part : List TalkEvent) → IsPrefix part (asked version (messages.Query (Sub lo hi)) block (rest ∷ more))
-        → IsPrefix ((sent version (ask_message l ∷ []) ++ ins bytes) ++ part) (said_for version depth (asks rest more))
+        → IsPrefix ((sent version (ask_message l ∷ []) ++ ins bytes) ++ part) (said_for version depth (question rest more))
     front rest more part f =
         let a = sent version (ask_message l ∷ []) in (
           f.0,

@@ -1,6 +1,6 @@
 //! The lookups of a run, asked one after another.
 
-ghost use Rattle.std.specs.Prelude.{◌≡◌, ◌≤◌, ◌^◌, ℕ, All, IsTrue, IfErr, IfOk, List, false};
+ghost use Rattle.std.specs.Prelude.{◌≡◌, ◌≤◌, ◌^◌, ℕ, All, IsTrue, List, false};
 ghost use Rattle.std.specs.Prelude.{length, nat_lt, vec_capacity};
 ghost use Rattle.std.specs.List.{list_all, zip};
 ghost use Rattle.sip_subvec.specs.Replies.{most_entries};
@@ -14,11 +14,9 @@ use crate::lookup::Lookup;
 use crate::task::LookTask;
 use arrayvec::ArrayVec;
 use sip_ports::{Link, PortStop, Sink};
-use sip_subvec::MOST_ENTRIES;
 use sip_vector::{Depth, Entry};
-use sip_verifier::{Asker, Seats, Status, Unanswered, has_failed};
+use sip_verifier::{Asker, Seats, Unanswered, has_failed};
 use sip_wire::{Frame, MOST_QUERIES, Message, Version, encode};
-use std::alloc::Global;
 use std::marker::Model;
 
 /// An answer that was accepted.
@@ -71,38 +69,29 @@ impl Model for Looker {
 impl Looker {
     ghost use Rattle.sip_lookup.specs.Tasks.{CanLookUp, version_of};
 
-    /// The lookups of a task, over seats that were gathered for it. Takes a frame of 8,709 bytes
-    /// and 16 bytes for each of 65,536 entries.
-    ///
-    /// # Errors
-    ///
-    /// `OutOfMemory`. The seats are then dropped.
-    #[inline(never)]
-    pub(crate) fn new(alloc: Global, task: &LookTask, seats: Seats) -> Result<Looker, Status>
+    /// The lookups of a task, over seats that were gathered for it, with a frame and room for the
+    /// entries of the longest answer. It is made within its caller, which spares the stack copies
+    /// of the seats.
+    #[inline(always)]
+    pub(crate) fn new(task: &LookTask, seats: Seats, frame: Frame, entries: Vec<Entry>) -> Looker
         requires can { CanLookUp task.now }
         requires levels { seats.depth ≡ task.now.depth }
         requires each { length seats.seats ≡ length task.now.lookups.items }
         requires rooted { IsTrue (list_all (λ s. has_root s.query) seats.seats) }
-        ensures memory { IfErr result (λ status. status ≡ Status.OutOfMemory) }
-        ensures begun { IfOk result (λ s. s ≡ record {
+        requires room { most_entries ≤ vec_capacity entries }
+        ensures { result ≡ record {
           version = version_of task.now;
           depth = task.now.depth;
           left = zip task.now.lookups.items seats.seats;
           spent = false;
-        }) }
+        } }
     {
         let levels = task.depth.get();
         prove!(levels <= Depth::MOST);
-        let Ok(frame) = Frame::new(alloc) else {
-            return Err(Status::OutOfMemory);
-        };
-        let Ok(entries) = Vec::with_capacity(alloc, MOST_ENTRIES as usize) else {
-            return Err(Status::OutOfMemory);
-        };
         let mut lookups = ArrayVec::new();
         let copied = lookups.try_extend_from_slice(&task.lookups).is_ok();
         prove!(copied);
-        Ok(Looker {
+        Looker {
             seats,
             depth: task.depth,
             version: task.version(),
@@ -111,7 +100,7 @@ impl Looker {
             frame,
             entries,
             is_spent: false,
-        })
+        }
     }
 }
 

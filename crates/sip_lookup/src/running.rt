@@ -19,8 +19,10 @@ ghost use Rattle.sip_lookup.specs.Tasks.{CanLookUp};
 use crate::asker::Looker;
 use crate::task::LookTask;
 use sip_ports::{Link, NullSink, Sink, Source};
+use sip_subvec::MOST_ENTRIES;
 use sip_vector::Depth;
 use sip_verifier::{Seats, Status, Tables, conclude_run, gather, status_of};
+use sip_wire::Frame;
 use std::alloc::Global;
 use std::mem;
 
@@ -42,16 +44,30 @@ fn seat_lookups(
     ensures { MatchResult result (λ looker. IsSeated task.now gathered.old looker.value)
         (λ status. IsUnseated gathered.old status) }
 {
+    if let Err(status) = gathered {
+        return Err(*status);
+    }
+    // Made first: the seats that are moved below leave less of the stack for it.
+    let Ok(frame) = Frame::new(alloc) else {
+        return Err(Status::OutOfMemory);
+    };
+    let Ok(entries) = Vec::with_capacity(alloc, MOST_ENTRIES as usize) else {
+        return Err(Status::OutOfMemory);
+    };
     match mem::replace(gathered, Err(Status::SeedSpent)) {
-        Ok(seats) => {
-            let looker = Looker::new(alloc, task, seats)?;
-            match Box::new(alloc, looker) {
-                Ok(looker) => Ok(looker),
-                Err(_) => Err(Status::OutOfMemory),
-            }
-        }
+        Ok(seats) => match Box::new(alloc, Looker::new(task, seats, frame, entries)) {
+            Ok(looker) => Ok(looker),
+            Err(_) => Err(Status::OutOfMemory),
+        },
         Err(status) => Err(status),
     }
+}
+
+/// Drops the lookups of a run. What a box has is moved to the stack before it is dropped: this is a
+/// call of its own, so that the run has no room for that on its stack.
+#[inline(never)]
+fn put_away(looker: Box<Looker>) {
+    drop(looker);
 }
 
 /// Gathers a root for each lookup of a task, and makes the lookups over these. It is a call of its
@@ -82,16 +98,15 @@ fn gather_lookups<A: Source, B: Source, L: Link>(
     ensures second { Lasts B.faults B.wants B.is_sure second.old second.new }
     ensures peer { Lasts L.faults L.wants L.is_sure peer.old peer.new }
 {
-    // A run of lookups keeps no record of its talk.
-    let mut keep = NullSink::new();
     // Nothing is gathered yet. What is stays here until the lookups have it.
     let mut gathered = Err(Status::SeedSpent);
+    // A run of lookups keeps no record of its talk.
     gather(
         &task.rooted(),
         first,
         second,
         peer,
-        &mut keep,
+        &mut NullSink::new(),
         &Tables::new(alloc),
         &mut gathered,
     );
@@ -122,8 +137,8 @@ pub fn look_stream<A: Source, B: Source, L: Link, K: Sink>(
         (snapshot (port A.left A.faults first.new) (port B.left B.faults second.new)
         (port L.talk L.faults peer.new) (port K.talk K.faults report.new) no_port)
         result }
-    ensures first { Lasts A.faults A.wants A.is_sure first.old first.new }
     ensures seed { TakesAtMost 32 (B.left second.old) (B.left second.new) }
+    ensures first { Lasts A.faults A.wants A.is_sure first.old first.new }
     ensures second { Lasts B.faults B.wants B.is_sure second.old second.new }
     ensures peer { Lasts L.faults L.wants L.is_sure peer.old peer.new }
     ensures report { Lasts K.faults K.wants K.is_sure report.old report.new }
@@ -134,5 +149,7 @@ pub fn look_stream<A: Source, B: Source, L: Link, K: Sink>(
         Ok(looker) => looker,
         Err(status) => return status,
     };
-    status_of(conclude_run(&mut *looker, peer, report, &mut NullSink::new()))
+    let status = status_of(conclude_run(&mut *looker, peer, report, &mut NullSink::new()));
+    put_away(looker);
+    status
 }

@@ -104,6 +104,13 @@ fn seat_questions(
     }
 }
 
+/// Drops the questions of a run. What a box has is moved to the stack before it is dropped: this is
+/// a call of its own, so that the run has no room for that on its stack.
+#[inline(never)]
+fn put_away(questions: Box<Questions>) {
+    drop(questions);
+}
+
 /// Gathers the seats of a task and makes its questions over these. It is a call of its own: the
 /// place where the seats are gathered is on the stack no longer than that, and not while the
 /// moments are asked.
@@ -188,5 +195,7 @@ pub fn moment_stream<A: Source, B: Source, L: Link, K: Sink>(
         Err(status) => return status,
     };
     // No record of the talk is kept.
-    status_of(conclude_run(&mut *questions, peer, report, &mut NullSink::new()))
+    let status = status_of(conclude_run(&mut *questions, peer, report, &mut NullSink::new()));
+    put_away(questions);
+    status
 }

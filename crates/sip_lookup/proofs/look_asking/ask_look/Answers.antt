@@ -98,12 +98,11 @@ returns-else-not-is_alone-clause-asks g c = λ stream stands.
     let went = rw c.in_ok-on_link.ensures at c.send_ask.ensures.talk in
     let found = c.in_ok-found.found in
     let possible : is_possible c.args.depth c.args.lookup found ≡ true = search rules in
-    let some : 1 ≤ length c.args.root.now.seat = omega (arith, c.requires.levels, c.get-levels.ensures.same, c.get-levels.ensures.some) in
     let asked = subst (λ (x : ℕ × ℕ). subs.Asks c.args.version c.args.depth stream (Sub x.0 x.1) c.args.root.now.seat (g.L.Sink.talk c.hear_found.new.link) (g.L.Sink.talk c.ask_sub.new.link) c.ask_sub.new.entries.items c.ask_sub.result) c.interval-lo.ensures.same (c.ask_sub.ensures.asks c.args.depth stream stands) in
     let is = c.in-Ok-Pairs.is ∙ ap (λ v. Ok v) c.in-Ok-Pairs.field-0-is in
     let alone : are_alone c.args.lookup found c.ask_sub.new.entries.items ≡ true = search rules in
     let says : looked_of c.answer.result ≡ stated_answer c.args.lookup c.ask_sub.new.entries.items = search rules in
-    record { answer = stated_answer c.args.lookup c.ask_sub.new.entries.items; answered = answered_comes c.args.version c.args.depth stream c.args.lookup c.args.root.now.seat (λ (given : LookAnswer) (answer : Looked). looked_of given ≡ answer) _ _ _ _ _ went found c.in_ok-found.ensures.hears possible some _ c.ask_sub.new.entries.items c.ask_sub.result asked is alone; states = says }
+    record { answer = stated_answer c.args.lookup c.ask_sub.new.entries.items; answered = answered_comes c.args.version c.args.depth stream c.args.lookup c.args.root.now.seat (λ (given : LookAnswer) (answer : Looked). looked_of given ≡ answer) _ _ _ _ _ went found c.in_ok-found.ensures.hears possible (omega (arith, c.requires.levels, c.get-levels.ensures.same, c.get-levels.ensures.some)) _ c.ask_sub.new.entries.items c.ask_sub.result asked is alone; states = says }
 
 pub returns-else-not-is_alone-clause-keeps : goal.returns-else-not-is_alone-clause-keeps
 returns-else-not-is_alone-clause-keeps g c =

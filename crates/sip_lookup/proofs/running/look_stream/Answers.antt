@@ -85,7 +85,7 @@ returns-clause-keeps g c =
     let task = c.args.task.now in
     let begun = lent ∙ is in
     let stops = stops_listed (λ status. is_accepted status || stops_gathering status) refl _ _ _ _ _ _ _ _ _ 0 0 0 c.conclude_run.result c.gather_lookups.ensures.peer.later (omega arith) (c.conclude_run.ensures.keeps.fault _ _ _ _) in
-    rw c.status_of.ensures
+    rw c.status_of-status.ensures
     (kept task over rooted.depth rooted.form rooted.queries c.requires some most
     (λ x t.
     let gathered = rw was at keeps.gathers x.stream x.seed t.stream t.seed in

@@ -18,12 +18,12 @@ overflow_mul-sets g c =
 
 pub loop-place-preserved : goal.loop-place-preserved
 loop-place-preserved g c =
+    let place : ℕ = c.from-at.result in
+    let sums = c.loop-place.sums in
+    let old = c.args.sums.now in
     let number = g.F.Field.number in
     let p : ℕ = g.F.Field.MODULUS in
     let k : ℕ = c.args.degree in
-    let old = c.args.sums.now in
-    let sums = c.loop-place.sums in
-    let place : ℕ = c.from-at.result in
     let v = c.times.result in
     let is : place ≡ c.loop-place.place = c.from-at.ensures in
     let within : place < length sums = omega (arith, is, c.loop-place.invariant.long, c.requires.places, c.loop-place-test.true) in

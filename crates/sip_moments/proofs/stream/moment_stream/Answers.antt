@@ -92,7 +92,7 @@ returns-clause-keeps g c =
     let lent : c.deref_mut.result.now ≡ c.in-Ok.questions.value = search rules in
     let begins = lent ∙ is in
     let stops = stops_listed (λ status. is_accepted status || stops_gathering status || stops_high status) refl _ _ _ _ _ _ _ _ _ 0 0 0 c.conclude_run.result c.gather_questions.ensures.peer.later (omega arith) (c.conclude_run.ensures.keeps.fault _ _ _ _) in
-    rw c.status_of.ensures
+    rw c.status_of-status.ensures
     (kept task some
     (λ x t.
     let gathered = rw was at keeps.gathers x.stream x.seed t.stream t.seed in

@@ -17,4 +17,4 @@ invariant_of-result c =
     let most : d ≤ most_depth = omega (arith, c.get-levels.ensures.same, c.get-levels.ensures.most) in
     let below : IsTrue (list_all (λ (l : Lookup). nat_lt (item_of l) (2 ^ d)) c.try_extend_from_slice.new.self.items) = subst (λ (ls : List Lookup). IsTrue (list_all (λ (l : Lookup). nat_lt (item_of l) (2 ^ d)) ls)) (sym copied) (items_below d c.args.task.now.lookups.items c.requires.can.items) in
     let shallow : d ≤ deepest c.version.result = subst (λ (v : Version). d ≤ deepest v) (sym c.version.ensures) (any_speaks d 0 0 most).shallow in
-    (c.requires.levels, (c.requires.each ∙ ap (λ (ls : List Lookup). length ls) (sym copied), (c.requires.rooted, (omega arith, (below, (shallow, (omega (arith, c.in-Ok-with_capacity.ensures.capacity), tt)))))))
+    (c.requires.levels, (c.requires.each ∙ ap (λ (ls : List Lookup). length ls) (sym copied), (c.requires.rooted, (omega arith, (below, (shallow, (omega (arith, c.requires.room), tt)))))))
