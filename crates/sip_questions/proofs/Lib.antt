@@ -9,6 +9,6 @@ pub mod PromisedRuns
 mod SeatAsks
 mod StoreHeard
 mod StoreReading
-mod StoreTalks
-mod StoreTurns
+pub mod StoreTalks
+pub mod StoreTurns
 mod Starting

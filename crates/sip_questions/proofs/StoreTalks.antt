@@ -24,9 +24,8 @@ use Rattle.sip_questions.specs.declared.store.Asked.{Asked}
 use Rattle.sip_questions.specs.declared.store_status.StoreStatus.{StoreStatus}
 use Rattle.sip_questions.specs.declared.store_status.StoreStatus.TheVariants as statuses
 use Rattle.sip_questions.specs.Serving.{QuestionHelper, fresh_questions, question_rules}
-use Rattle.sip_questions.specs.StoreFronts.{asked_for, held_frame, held_of}
+use Rattle.sip_questions.specs.StoreFronts.{HearsStore, asked_for, held_frame, held_of}
 use Rattle.sip_questions.specs.Stores.{ServesStore, status_of, store_heard}
-use Rattle.sip_questions.specs.inside.StoreHearing.{HearsStore}
 use Rattle.sip_questions.specs.inside.StoreTurns.{IsAsked, OpensStore}
 
 -- what is held has a spelling

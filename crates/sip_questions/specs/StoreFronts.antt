@@ -1,6 +1,6 @@
 -- Which records of its store a helper hears, and what it is told of them before.
-use Rattle.std.specs.Prelude.{◌≡◌, ℕ, ◌<◌, ◌≤◌, List, ◌++◌, length, take}
-use Rattle.std.specs.Prelude.{IfSome, Option, Some, None}
+use Rattle.std.specs.Prelude.{◌≡◌, ℕ, ◌<◌, ◌≤◌, List, [], ◌∷◌, ◌++◌, length, take}
+use Rattle.std.specs.Prelude.{IfSome, Option, Some, None, Result, Ok, Err}
 use Rattle.sip_stream.specs.declared.fault.StreamFault.{StreamFault}
 use Rattle.sip_stream.specs.declared.fault.StreamFault.TheVariants as faults
 use Rattle.sip_stream.specs.declared.form.Form.{Form}
@@ -15,7 +15,8 @@ use Rattle.sip_wire.specs.declared.message.Message.TheVariants as messages
 use Rattle.sip_wire.specs.declared.version.Version.TheVariants.{One}
 use Rattle.sip_wire.specs.Spelling.{spelling}
 use Rattle.sip_helper.specs.Rules.{IsMessageAt}
-use Rattle.sip_helper.specs.Turns.{version_opened}
+use Rattle.sip_helper.specs.Streams.{stream_heard}
+use Rattle.sip_helper.specs.Turns.{HelperState, version_opened}
 use Rattle.sip_questions.specs.declared.store_status.StoreStatus.{StoreStatus}
 use Rattle.sip_questions.specs.declared.store_status.StoreStatus.TheVariants as statuses
 
@@ -83,6 +84,14 @@ pub record Hears (r : Recalls) (form : Form) (store left : Option (List ℕ))
   pub legal : IsLegal r.depth us
   pub few : length us ≤ r.count
   pub front : IfSome store (λ bytes. IsFront r.depth form bytes left r.count us)
+
+-- the front that is asked for was heard, and its end, and this is what it comes to
+abbrev pub HearsStore : Recalls → Form → Option (List ℕ) → Option (List ℕ) → HelperState
+    → Result Held StoreStatus → Type 0
+HearsStore r form store left next (Ok held) =
+    (us : List Update) × Hears r form store left us
+    × (next ≡ stream_heard r.number r.depth (us ∷ [])) × (held ≡ held_of us)
+HearsStore r form store left next (Err status) = IsUnheard r form store status
 
 -- the status of a talk whose store was read no further
 abbrev pub status_of_fault : StreamFault → StoreStatus

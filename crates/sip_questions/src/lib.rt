@@ -14,7 +14,8 @@
 //!
 //! [`serve_store`] is a helper's end over records that it has of its own: it is told how many of
 //! them to hear, hears so many or all, says what they come to, and answers from there on
-//! (`ServesStore`).
+//! (`ServesStore`). Whoever has no link takes its parts one by one: the turn of a [`Recalling`], and
+//! then [`hear_store`] and [`say_held`].
 //!
 //! The command `serve` is [`serve_store`] over a file and a link.
 //!
@@ -50,7 +51,9 @@ mod store_status;
 pub use asker::{QuestionAsker, QuestionGiven};
 pub use asking::ask_question;
 pub use question::Question;
+pub use recalling::Recalling;
 pub use seat::QuestionSeat;
 pub use serving::{QuestionCore, serve_questions};
-pub use store::serve_store;
+pub use store::{say_held, serve_store};
+pub use store_hearing::hear_store;
 pub use store_status::StoreStatus;

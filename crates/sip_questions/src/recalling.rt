@@ -10,15 +10,18 @@ use sip_wire::{Message, Place, Version};
 /// A helper with a store of its own that has heard the opening: it is to hear how many records of
 /// the store are wanted. Nothing but that may come, and a Bye.
 #[derive(Clone, Copy, Debug, PartialEq, Eq)]
-pub(crate) struct Recalling {
-    pub(crate) version: Version,
-    pub(crate) count: Option<u64>,
-    pub(crate) done: bool,
+pub struct Recalling {
+    /// The version of the talk.
+    pub version: Version,
+    /// How many are to be heard, once that was said.
+    pub count: Option<u64>,
+    /// A Bye was heard.
+    pub done: bool,
 }
 
 impl Recalling {
     /// Nothing was heard behind the opening.
-    pub(crate) fn new(version: Version) -> Recalling
+    pub fn new(version: Version) -> Recalling
         ensures { result ≡ awaiting version }
     {
         Recalling {

@@ -72,7 +72,7 @@ impl QuestionCore {
     }
 
     /// A helper of questions of what another one has heard of a stream and of queries.
-    pub(crate) fn behind(alloc: Global, stream: HelperCore) -> QuestionCore
+    pub fn behind(alloc: Global, stream: HelperCore) -> QuestionCore
         ensures { result ≡ record fresh_questions { helper = stream } }
     {
         QuestionCore {
@@ -86,7 +86,7 @@ impl QuestionCore {
     }
 
     /// What was heard of the stream and of queries.
-    pub(crate) fn into_stream(self) -> HelperCore
+    pub fn into_stream(self) -> HelperCore
         ensures { result ≡ self.helper }
     {
         self.core

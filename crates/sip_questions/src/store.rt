@@ -14,7 +14,7 @@ use crate::recalling::Recalling;
 use crate::serving::QuestionCore;
 use crate::store_hearing::hear_store;
 use sip_helper::{HelpStatus, Helps, take_turn, talk_on};
-use sip_ports::{Link, PortStop, Source};
+use sip_ports::{Link, PortStop, Sink, Source};
 use sip_stream::Form;
 use sip_wire::{Frame, Held, Message, Version, encode};
 use std::alloc::Global;
@@ -55,17 +55,17 @@ fn open<L: Link>(
 /// Says what was heard. It is a call of its own, since a message is as large as the longest frame's
 /// rows: the stack has it no longer than that.
 #[inline(never)]
-fn say_held<L: Link>(held: Held, version: Version, link: &mut L) -> Result<(), PortStop>
-    ensures talk { SendsWhole (L.talk link.old) (L.talk link.new) result
+pub fn say_held<K: Sink>(held: Held, version: Version, out: &mut K) -> Result<(), PortStop>
+    ensures talk { SendsWhole (K.talk out.old) (K.talk out.new) result
         (spelling version (messages.Held held)) }
-    ensures cause { HasCause L.faults L.wants L.is_sure link.old link.new result }
+    ensures cause { HasCause K.faults K.wants K.is_sure out.old out.new result }
 {
     // Their types bound these numbers.
     let _records = held.records;
     let _first = held.first;
     let _second = held.second;
     let _fingerprint = held.fingerprint;
-    encode(&Message::Held(held), version, link)
+    encode(&Message::Held(held), version, out)
 }
 
 /// Hears a talk of questions and answers, until a Bye, where the stream is not sent: the helper has

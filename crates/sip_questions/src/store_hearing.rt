@@ -7,9 +7,9 @@ ghost use Rattle.sip_vector.specs.Tallies.{tally};
 ghost use Rattle.sip_vector.specs.declared.update.Update.{Update as AnyUpdate};
 ghost use Rattle.sip_wire.specs.declared.message.Message.TheVariants as messages;
 ghost use Rattle.sip_helper.specs.Turns.{fresh, step};
-ghost use Rattle.sip_questions.specs.StoreFronts.{Recalls};
-ghost use Rattle.sip_questions.specs.inside.StoreHearing.{HearsFront, HearsSome, HearsStore};
-ghost use Rattle.sip_questions.specs.inside.StoreHearing.{IsAsFar, TakesSome};
+ghost use Rattle.sip_questions.specs.StoreFronts.{HearsStore, Recalls};
+ghost use Rattle.sip_questions.specs.inside.StoreHearing.{HearsFront, HearsSome, IsAsFar};
+ghost use Rattle.sip_questions.specs.inside.StoreHearing.{TakesSome};
 
 use crate::StoreStatus;
 use sip_helper::HelperCore;
@@ -125,7 +125,7 @@ fn nothing_told() -> Tally
 /// count of faults rose. `OutOfMemory` where memory is refused for the block, by the store or for
 /// the vectors, at the opening too: so an answer that is not `Err` says that the vectors are there.
 #[inline(never)]
-pub(crate) fn hear_store<A: Source>(
+pub fn hear_store<A: Source>(
     alloc: Global,
     stream: &mut HelperCore,
     form: Form,

@@ -8,12 +8,8 @@ use Rattle.sip_stream.specs.declared.form.Form.{Form}
 use Rattle.sip_stream.specs.Reading.{IsAfter, Reading, Tells}
 use Rattle.sip_stream.specs.Records.{records_from}
 use Rattle.sip_vector.specs.declared.update.Update.{Update}
-use Rattle.sip_wire.specs.declared.message.Held.{Held}
 use Rattle.sip_wire.specs.declared.message.Message.TheVariants as messages
-use Rattle.sip_helper.specs.Streams.{stream_heard}
 use Rattle.sip_helper.specs.Turns.{HelperState, part_of, step}
-use Rattle.sip_questions.specs.declared.store_status.StoreStatus.{StoreStatus}
-use Rattle.sip_questions.specs.StoreFronts.{Hears, IsUnheard, Recalls, held_of}
 
 -- A reader has taken these records off a source that had some bytes, and has others left.
 pub record Takes (old new : Reading) (had left : Option (List ℕ)) (us : List Update) : Type 0 where
@@ -85,11 +81,3 @@ HearsFront s next old new had left most (Ok _) =
     (us : List Update) × (length us ≤ most) × HearsOn s next old new had left us
     × (length us < most → IsReadOut old had left)
 HearsFront s next old new had left most (Err fault) = StopsWithin old had most fault
-
--- the front that is asked for was heard, and its end, and this is what it comes to
-abbrev pub HearsStore : Recalls → Form → Option (List ℕ) → Option (List ℕ) → HelperState
-    → Result Held StoreStatus → Type 0
-HearsStore r form store left next (Ok held) =
-    (us : List Update) × Hears r form store left us
-    × (next ≡ stream_heard r.number r.depth (us ∷ [])) × (held ≡ held_of us)
-HearsStore r form store left next (Err status) = IsUnheard r form store status
