@@ -79,7 +79,8 @@ fn stored_kept(kept: &mut Kept) -> Result<(), Refusal>
 fn stored_in(alloc: Global, handle: &mut Handle) -> Result<(), Refusal>
     requires begun { IsBegun handle.old.spot.held }
     ensures begun { IsBegun handle.new.spot.held }
-    ensures does { ThroughAsking (Unit {0}) Stored handle.old.spot.held result handle.new.spot.held }
+    ensures does { ThroughAsking (Unit {0}) Stored handle.old.spot.held result
+        handle.new.spot.held }
 {
     let Some(mut kept) = handle.take(alloc) else {
         return Err(Refusal::Empty);

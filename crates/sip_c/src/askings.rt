@@ -267,7 +267,8 @@ fn close_kept(kept: &mut Kept) -> Result<(), Refusal>
 fn close_in(alloc: Global, handle: &mut Handle) -> Result<(), Refusal>
     requires begun { IsBegun handle.old.spot.held }
     ensures begun { IsBegun handle.new.spot.held }
-    ensures does { ThroughAsking (Unit {0}) Closes handle.old.spot.held result handle.new.spot.held }
+    ensures does { ThroughAsking (Unit {0}) Closes handle.old.spot.held result
+        handle.new.spot.held }
 {
     let Some(mut kept) = handle.take(alloc) else {
         return Err(Refusal::Empty);
