@@ -3,12 +3,14 @@ ghost use Rattle.std.specs.Prelude.{◌≡◌, ℕ, ◌+◌, ◌*◌, ◌/◌, �
 ghost use Rattle.std.specs.Prelude.{nat_le, pos, int_le, vec_len, vec_capacity};
 ghost use Rattle.std.specs.List.{list_all};
 ghost use Rattle.sip_field.specs.Residue.{product_mod};
+ghost use Rattle.sip_field.specs.Moduli.{m61_modulus};
 ghost use Rattle.sip_heavy.specs.AcceptsHeavy as heavy;
+ghost use Rattle.sip_heavy.specs.Honest.{mark_of};
 
 use crate::form::LeafForm;
-use sip_field::Field;
+use sip_field::{Field, M61};
 use sip_vector::Entry;
-use sip_wire::Node;
+use sip_wire::{Mark, Node};
 
 // Moves the nodes before the first one that is not below an index to the end of a list, which has
 // room for all of them. How many these are.
@@ -170,5 +172,16 @@ fn signed_of<F: Field>(residue: F) -> i64
         number as i64
     } else {
         number as i64 - F::MODULUS as i64
+    }
+}
+
+/// A node of the lowest level as the mark that it stands for, modulo 2^61 - 1.
+pub fn mark_of(node: &Node) -> Mark
+    ensures { result ≡ mark_of m61_modulus node.now }
+{
+    Mark {
+        item: node.index,
+        value: signed_of(M61::of(node.hash)),
+        weight: node.count,
     }
 }

@@ -77,6 +77,7 @@ mod space;
 pub use check::HeavyCheck;
 pub use form::LeafForm;
 pub use heavy_asking::HeavyAsking;
+pub use level::mark_of;
 pub use space::HeavySpace;
 
 // The honest side.

@@ -5,3 +5,4 @@ pub mod Keeping
 pub mod Legal
 pub mod Measures
 pub mod Starting
+pub mod Nodes

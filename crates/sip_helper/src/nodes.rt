@@ -1,19 +1,21 @@
 //! The leaves or nodes that are shown of a level, on their way to the verifier.
 
-ghost use Rattle.std.specs.Prelude.{◌≡◌, ◌<◌, ◌++◌, [], All, IsTrue, length, map};
+ghost use Rattle.std.specs.Prelude.{◌≡◌, ◌<◌, ◌≤◌, ◌++◌, [], All, IsTrue, length, map};
 ghost use Rattle.std.specs.List.{flat_map};
+ghost use Rattle.sip_field.specs.Moduli.{m61_modulus};
 ghost use Rattle.sip_ports.specs.Ports.{HasCause, SendsWhole};
 ghost use Rattle.sip_wire.specs.Spelling.{fits, spelling};
 ghost use Rattle.sip_wire.specs.Table.{most_nodes, most_rows};
-ghost use Rattle.sip_heavy.specs.Honest.{its_nodes, leaf_frames, leaf_of, node_frames};
+ghost use Rattle.sip_heavy.specs.Honest.{its_nodes, leaf_frames, leaf_of, mark_of};
 ghost use Rattle.sip_heavy.specs.Honest.{opening_frames};
 ghost use Rattle.sip_heavy.specs.Spots.{from_on};
+ghost use Rattle.sip_helper.specs.inside.Nodes.{shown_frame, shown_frames};
 
 use arrayvec::ArrayVec;
 use sip_field::{Field, M61};
-use sip_heavy::HeavyProver;
+use sip_heavy::{HeavyProver, LeafForm, mark_of};
 use sip_ports::{PortStop, Sink};
-use sip_wire::{Leaf, MOST_NODES, MOST_ROWS, Message, Node, Version, encode};
+use sip_wire::{Leaf, MOST_NODES, MOST_ROWS, Mark, Message, Node, Version, encode};
 
 /// The first leaves from `from` on that are shown, as many as a frame has, and the item from which
 /// on the others stand.
@@ -99,17 +101,43 @@ fn put_leaves<K: Sink>(
     }
 }
 
-/// Sends the nodes that are shown of a level, in full frames and a last one of the rest. It takes
-/// no memory.
+// The marks that nodes stand for.
+fn marks_of(nodes: &[Node]) -> ArrayVec<Mark, MOST_NODES>
+    requires { length nodes.now ≤ most_nodes }
+    ensures { result.items ≡ map (mark_of m61_modulus) nodes.now }
+{
+    let mut marks = ArrayVec::new();
+    for node in nodes {
+        marks.push(mark_of(node));
+    }
+    marks
+}
+
+// A frame of nodes, or of the marks that they stand for.
+#[inline(never)]
+fn frame_of(nodes: ArrayVec<Node, MOST_NODES>, as_marks: bool) -> Message
+    ensures { result ≡ shown_frame as_marks nodes.items }
+{
+    if as_marks {
+        Message::Marks(marks_of(&nodes))
+    } else {
+        Message::Nodes(nodes)
+    }
+}
+
+/// Sends the nodes that are shown of a level, or the marks that they stand for, in full frames and
+/// a last one of the rest. It takes no memory.
 #[inline(never)]
 fn put_nodes<K: Sink>(
     version: Version,
     prover: &HeavyProver<M61>,
+    as_marks: bool,
     out: &mut K,
 ) -> Result<(), PortStop>
-    requires fit { All (λ m. IsTrue (fits version m)) (node_frames (its_nodes prover.now)) }
+    requires fit { All (λ m. IsTrue (fits version m))
+        (shown_frames as_marks (its_nodes prover.now)) }
     ensures talk { SendsWhole (K.talk out.old) (K.talk out.new) result
-        (flat_map (spelling version) (node_frames (its_nodes prover.now))) }
+        (flat_map (spelling version) (shown_frames as_marks (its_nodes prover.now))) }
     ensures cause { HasCause K.faults K.wants K.is_sure out.old out.new result }
 {
     let mut next = 0;
@@ -119,7 +147,7 @@ fn put_nodes<K: Sink>(
             return Ok(());
         }
         let is_last = !rows.is_full();
-        encode(&Message::Nodes(rows), version, out)?;
+        encode(&frame_of(rows, as_marks), version, out)?;
         if is_last {
             return Ok(());
         }
@@ -127,22 +155,24 @@ fn put_nodes<K: Sink>(
     }
 }
 
-/// Sends what is shown of a level: leaves where it is the lowest, and else nodes.
-pub(crate) fn put_level<K: Sink>(
+/// Sends what is shown of a level: leaves or marks where it is the lowest, and else nodes.
+pub fn put_level<K: Sink>(
     version: Version,
     prover: &HeavyProver<M61>,
     is_lowest: bool,
     out: &mut K,
 ) -> Result<(), PortStop>
     requires lowest { prover.now.is_leaf ≡ is_lowest }
-    requires fit { All (λ m. IsTrue (fits version m)) (opening_frames prover.now) }
+    requires fit { All (λ m. IsTrue (fits version m)) (opening_frames m61_modulus prover.now) }
     ensures talk { SendsWhole (K.talk out.old) (K.talk out.new) result
-        (flat_map (spelling version) (opening_frames prover.now)) }
+        (flat_map (spelling version) (opening_frames m61_modulus prover.now)) }
     ensures cause { HasCause K.faults K.wants K.is_sure out.old out.new result }
 {
-    if is_lowest {
-        put_leaves(version, prover, out)
-    } else {
-        put_nodes(version, prover, out)
+    if !is_lowest {
+        return put_nodes(version, prover, false, out);
+    }
+    match prover.form() {
+        LeafForm::Count => put_leaves(version, prover, out),
+        LeafForm::Mark => put_nodes(version, prover, true, out),
     }
 }

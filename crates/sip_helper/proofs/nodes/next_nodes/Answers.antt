@@ -1,5 +1,5 @@
 -- The next node stands in front of those that are left.
-use Rattle.std.proofs.Common.{◌≡◌, ℕ, ◌+◌, List, [], ◌∷◌, ◌++◌, sym, ap, ◌∙◌, append_assoc}
+use Rattle.std.proofs.Common.{ℕ, ◌+◌, List, [], ◌∷◌, ◌++◌, sym, ap, ◌∙◌, append_assoc}
 use Rattle.sip_field.specs.Elements.{m61_number}
 use Rattle.sip_wire.specs.declared.message.Node.{Node}
 use Rattle.sip_heavy.specs.Honest.{its_nodes, node_of}

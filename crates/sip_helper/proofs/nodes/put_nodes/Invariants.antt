@@ -4,12 +4,12 @@ use Rattle.sip_ports.specs.Ports.{Lasts}
 use Rattle.sip_heavy.specs.Honest.{its_nodes}
 use Rattle.sip_heavy.specs.Spots.{from_on}
 use Rattle.sip_helper.proofs.Frames.{Partly}
-use Rattle.sip_helper.proofs.ShownFrames.{nodes}
+use Rattle.sip_helper.specs.inside.Nodes.{shown_frame}
 use Rattle.sip_helper.proofs.nodes.put_nodes.Given as goal
 
 abbrev pub invariant-loop-version : goal.invariant-loop-version
 invariant-loop-version g l = record {
-  partly : Partly nodes 256 l.version (g.K.Sink.talk l.initial.out) (g.K.Sink.talk l.out) (its_nodes l.prover) (from_on l.next (its_nodes l.prover));
+  partly : Partly (shown_frame l.as_marks) 256 l.version (g.K.Sink.talk l.initial.out) (g.K.Sink.talk l.out) (its_nodes l.prover) (from_on l.next (its_nodes l.prover));
   lasts : Lasts g.K.Sink.faults g.K.Sink.wants g.K.Sink.is_sure l.initial.out l.out;
 }
 
