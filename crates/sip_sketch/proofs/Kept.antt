@@ -14,7 +14,7 @@ use Rattle.sip_vector.specs.declared.update.Update.{Update}
 use Rattle.sip_verifier.specs.QuerySeats.{HasRoom, aug_root_is, keeps}
 use Rattle.sip_verifier.specs.Running.{numbers_of}
 use Rattle.sip_verifier.specs.declared.running.Running.{Running}
-use Rattle.sip_verifier.specs.declared.running.Running.TheVariants.{Root, Point, Points, AugRoot}
+use Rattle.sip_verifier.specs.declared.running.Running.TheVariants.{Root, Point, Points, AugRoot, SplitRoot}
 use Rattle.sip_sketch.specs.declared.cursor.Size.TheVariants.{Long}
 use Rattle.sip_sketch.specs.declared.kind.SeatKind.{SeatKind}
 use Rattle.sip_sketch.specs.declared.kind.SeatKind.TheVariants.{Entries, Sums, Products, Heavy}
@@ -33,17 +33,21 @@ kept_back Entries (Root root) kept = refl
 kept_back Entries (Point point) kept = absurd cc
 kept_back Entries (Points points) kept = absurd cc
 kept_back Entries (AugRoot root) kept = absurd cc
+kept_back Entries (SplitRoot root) kept = absurd cc
 kept_back (Sums side) (Root root) kept = absurd cc
 kept_back (Sums side) (Point point) kept = refl
 kept_back (Sums side) (Points points) kept = absurd cc
 kept_back (Sums side) (AugRoot root) kept = absurd cc
+kept_back (Sums side) (SplitRoot root) kept = absurd cc
 kept_back Products (Root root) kept = absurd cc
 kept_back Products (Point point) kept = absurd cc
 kept_back Products (Points points) kept = refl
 kept_back Products (AugRoot root) kept = absurd cc
+kept_back Products (SplitRoot root) kept = absurd cc
 kept_back (Heavy side) (Root root) kept = absurd cc
 kept_back (Heavy side) (Point point) kept = absurd cc
 kept_back (Heavy side) (Points points) kept = absurd cc
+kept_back (Heavy side) (SplitRoot root) kept = absurd cc
 kept_back (Heavy side) (AugRoot root) kept = ap (aug_root_is root.hash) (told_back root.total root.within)
 
 -- the first is an element
@@ -52,6 +56,7 @@ first_below (Root root) = root.below
 first_below (Point point) = point.below
 first_below (Points points) = points.first.below
 first_below (AugRoot root) = root.below
+first_below (SplitRoot root) = root.below
 
 -- and the second one that its kind may have
 pub is_second : (kind : SeatKind) (r : Running) → IsTrue (keeps (query_of kind) (numbers_of r)) → IsSecond kind (second_number (numbers_of r))
@@ -59,17 +64,21 @@ is_second Entries (Root root) kept = refl
 is_second Entries (Point point) kept = absurd cc
 is_second Entries (Points points) kept = absurd cc
 is_second Entries (AugRoot root) kept = absurd cc
+is_second Entries (SplitRoot root) kept = absurd cc
 is_second (Sums side) (Root root) kept = absurd cc
 is_second (Sums side) (Point point) kept = refl
 is_second (Sums side) (Points points) kept = absurd cc
 is_second (Sums side) (AugRoot root) kept = absurd cc
+is_second (Sums side) (SplitRoot root) kept = absurd cc
 is_second Products (Root root) kept = absurd cc
 is_second Products (Point point) kept = absurd cc
 is_second Products (Points points) kept = points.second.below
 is_second Products (AugRoot root) kept = absurd cc
+is_second Products (SplitRoot root) kept = absurd cc
 is_second (Heavy side) (Root root) kept = absurd cc
 is_second (Heavy side) (Point point) kept = absurd cc
 is_second (Heavy side) (Points points) kept = absurd cc
+is_second (Heavy side) (SplitRoot root) kept = absurd cc
 is_second (Heavy side) (AugRoot root) kept = omega (arith, told_small root.total root.within)
 
 -- ---- the field of a total
@@ -184,9 +193,11 @@ raised_told (Heavy side) (AugRoot root) (AugRoot root') updates t kept kept' aft
 raised_told (Heavy side) (Root root) r' updates t kept kept' after told = absurd cc
 raised_told (Heavy side) (Point point) r' updates t kept kept' after told = absurd cc
 raised_told (Heavy side) (Points points) r' updates t kept kept' after told = absurd cc
+raised_told (Heavy side) (SplitRoot root) r' updates t kept kept' after told = absurd cc
 raised_told (Heavy side) (AugRoot root) (Root root') updates t kept kept' after told = absurd cc
 raised_told (Heavy side) (AugRoot root) (Point point) updates t kept kept' after told = absurd cc
 raised_told (Heavy side) (AugRoot root) (Points points) updates t kept kept' after told = absurd cc
+raised_told (Heavy side) (AugRoot root) (SplitRoot root') updates t kept kept' after told = absurd cc
 
 -- ---- room for more
 
@@ -197,13 +208,16 @@ total_within w false x value = let (low, high) = ranged_from Long (most_weight +
 
 pub kept_room : (kind : SeatKind) (t : Tally) (first x : ℕ) (updates : List Update) → IsTold t kind false x
     → weight_told t (side_of kind) + weight updates (side_of kind) ≤ most_weight → HasRoom (numbers_kept kind first x) (of_side updates (side_of kind))
-kept_room Entries t first x updates told light = λ hash total is k few. absurd cc
-kept_room (Sums side) t first x updates told light = λ hash total is k few. absurd cc
-kept_room Products t first x updates told light = λ hash total is k few. absurd cc
-kept_room (Heavy side) t first x updates told light = λ hash total is k few.
-    let same : pos x -ℤ pos most_weight ≡ total = cc in
-    let own = subst (λ (f : Field). IsValue f x) (heavy_field t side false) told in
-    let w = weight_told t side in
-    let within = total_within w (negative_told t side) x own in
-    let start : nat_abs total ≤ w = subst (λ z. nat_abs z ≤ w) same (omega (arith, ints, within.0, within.1, light)) in
-    omega (arith, light_after (of_side updates side) total w k start, light)
+kept_room Entries t first x updates told light = record { sums = λ hash total is k few. absurd cc; weights = λ hash weight is. absurd cc }
+kept_room (Sums side) t first x updates told light = record { sums = λ hash total is k few. absurd cc; weights = λ hash weight is. absurd cc }
+kept_room Products t first x updates told light = record { sums = λ hash total is k few. absurd cc; weights = λ hash weight is. absurd cc }
+kept_room (Heavy side) t first x updates told light = record {
+  sums = λ hash total is k few.
+      let same : pos x -ℤ pos most_weight ≡ total = cc in
+      let own = subst (λ (f : Field). IsValue f x) (heavy_field t side false) told in
+      let w = weight_told t side in
+      let within = total_within w (negative_told t side) x own in
+      let start : nat_abs total ≤ w = subst (λ z. nat_abs z ≤ w) same (omega (arith, ints, within.0, within.1, light)) in
+      omega (arith, light_after (of_side updates side) total w k start, light);
+  weights = λ hash weight is. absurd cc;
+}

@@ -10,7 +10,7 @@ use Rattle.sip_vector.specs.declared.update.Update.{Update}
 use Rattle.sip_verifier.specs.QuerySeats.{RunsOn, keeps}
 use Rattle.sip_verifier.specs.Running.{block_of, numbers_of}
 use Rattle.sip_verifier.specs.declared.running.Running.{Running}
-use Rattle.sip_verifier.specs.declared.running.Running.TheVariants.{Root, Point, Points, AugRoot}
+use Rattle.sip_verifier.specs.declared.running.Running.TheVariants.{Root, Point, Points, AugRoot, SplitRoot}
 use Rattle.sip_sketch.specs.declared.cursor.Size.TheVariants.{Long}
 use Rattle.sip_sketch.specs.declared.kind.SeatKind.{SeatKind}
 use Rattle.sip_sketch.specs.declared.kind.SeatKind.TheVariants.{Entries, Sums, Products, Heavy}
@@ -96,3 +96,4 @@ begun_told (Heavy side) (AugRoot root) kept starts = subst (λ (z : ℤ). IsTold
 begun_told (Heavy side) (Root root) kept starts = absurd cc
 begun_told (Heavy side) (Point point) kept starts = absurd cc
 begun_told (Heavy side) (Points points) kept starts = absurd cc
+begun_told (Heavy side) (SplitRoot root) kept starts = absurd cc

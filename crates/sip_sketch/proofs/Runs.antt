@@ -11,7 +11,7 @@ use Rattle.sip_vector.specs.declared.update.Side.TheVariants.{First, Second}
 use Rattle.sip_vector.specs.declared.update.Update.{Update}
 use Rattle.sip_vector.proofs.TreeStreams.{vector_goes_on}
 use Rattle.sip_verifier.proofs.Seating.{same_true}
-use Rattle.sip_verifier.specs.QuerySeats.{RunsOn, root_is, point_is, points_are, aug_root_is}
+use Rattle.sip_verifier.specs.QuerySeats.{RunsOn, root_is, point_is, points_are, aug_root_is, split_root_is}
 use Rattle.sip_sketch.specs.declared.kind.SeatKind.{SeatKind}
 use Rattle.sip_sketch.specs.declared.kind.SeatKind.TheVariants.{Entries, Sums, Products, Heavy}
 use Rattle.sip_sketch.specs.Seats.{query_of, side_of}
@@ -110,3 +110,10 @@ pub own_is : (kind : SeatKind) (side : Side) (updates firsts seconds : List Upda
     → firsts ≡ of_side updates First → seconds ≡ of_side updates Second → own_of side firsts seconds ≡ of_side updates (side_of kind)
 own_is kind First updates firsts seconds sided one other = one ∙ ap (of_side updates) (sym sided)
 own_is kind Second updates firsts seconds sided one other = other ∙ ap (of_side updates) (sym sided)
+
+-- no seat keeps the root of a split tree
+pub split_never : (depth : ℕ) (stream : List Update) (kind : SeatKind) (block : List ℕ) (hash weight : ℕ) → RunsOn depth stream (query_of kind) block (split_root_is hash weight) → ⊥
+split_never depth stream Entries block hash weight stands = absurd stands
+split_never depth stream (Sums side) block hash weight stands = absurd stands
+split_never depth stream Products block hash weight stands = absurd stands
+split_never depth stream (Heavy side) block hash weight stands = absurd stands

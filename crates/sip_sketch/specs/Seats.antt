@@ -7,7 +7,7 @@ use Rattle.sip_vector.specs.declared.update.Side.{Side}
 use Rattle.sip_vector.specs.declared.update.Side.TheVariants.{First}
 use Rattle.sip_vector.specs.Streams.{most_weight}
 use Rattle.sip_verifier.specs.QuerySeats.{RunningNumbers, root_is, point_is, points_are}
-use Rattle.sip_verifier.specs.QuerySeats.{aug_root_is}
+use Rattle.sip_verifier.specs.QuerySeats.{aug_root_is, split_root_is}
 use Rattle.sip_sketch.specs.declared.kind.SeatKind.{SeatKind}
 use Rattle.sip_sketch.specs.declared.kind.SeatKind.TheVariants.{Entries, Sums, Products, Heavy}
 
@@ -31,14 +31,16 @@ first_number (root_is value) = value
 first_number (point_is value) = value
 first_number (points_are first second) = first
 first_number (aug_root_is hash total) = hash
+first_number (split_root_is hash weight) = hash
 
 -- The second one: the other side's extension, or the total of the side and the greatest weight,
--- which is not below 0; and else 0.
+-- which is not below 0; the weight of the side, of which no seat of a file is; and else 0.
 abbrev pub second_number : RunningNumbers → ℕ
 second_number (root_is value) = 0
 second_number (point_is value) = 0
 second_number (points_are first second) = second
 second_number (aug_root_is hash total) = nat_abs (total +ℤ pos most_weight)
+second_number (split_root_is hash weight) = weight
 
 -- what two numbers say that a seat of this kind keeps
 abbrev pub numbers_kept : SeatKind → ℕ → ℕ → RunningNumbers

@@ -71,6 +71,7 @@ fn first_of(running: &Running) -> u64
         Running::Point(point) => point.value,
         Running::Points(points) => points.first.value,
         Running::AugRoot(root) => root.hash,
+        Running::SplitRoot(root) => root.hash,
     }
 }
 
@@ -82,6 +83,7 @@ fn second_of(running: &Running) -> u64
         Running::Root(_) | Running::Point(_) => 0,
         Running::Points(points) => points.second.number(),
         Running::AugRoot(root) => raised(root.total()),
+        Running::SplitRoot(root) => root.weight(),
     }
 }
 
@@ -141,6 +143,7 @@ fn raise(running: &mut Running, side: Side, firsts: &[Update], seconds: &[Update
             points.update_all(Side::Second, seconds);
         }
         Running::AugRoot(root) => root.update_all(own),
+        Running::SplitRoot(root) => root.update_all(own),
     }
 }
 

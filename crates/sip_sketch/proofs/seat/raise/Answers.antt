@@ -6,7 +6,7 @@ use Rattle.sip_verifier.specs.QuerySeats.{RunsOn}
 use Rattle.sip_verifier.specs.Running.{block_of, numbers_of}
 use Rattle.sip_verifier.specs.declared.running.Running.{Running}
 use Rattle.sip_sketch.specs.Seats.{query_of}
-use Rattle.sip_sketch.proofs.Runs.{both_after, own_is, root_further, point_further, points_further, aug_root_further}
+use Rattle.sip_sketch.proofs.Runs.{both_after, own_is, root_further, point_further, points_further, aug_root_further, split_never}
 use Rattle.sip_sketch.proofs.seat.raise.Goals as goal
 
 pub returns-in-Root-clause-runs : goal.returns-in-Root-clause-runs
@@ -36,3 +36,7 @@ returns-in-AugRoot-clause-runs c = λ depth stream updates kind sided firsts sec
     let own = c.own_of-own.ensures ∙ own_is kind c.args.side updates c.args.firsts.now c.args.seconds.now sided firsts seconds in
     let stands = subst (λ (r : Running). RunsOn depth stream (query_of kind) (block_of r) (numbers_of r)) c.in-AugRoot.is runs in
     aug_root_further depth stream updates _ _ kind c.own_of-own.result.now _ _ _ _ own c.update_all-in-AugRoot.ensures.stands stands
+
+pub returns-in-SplitRoot-clause-runs : goal.returns-in-SplitRoot-clause-runs
+returns-in-SplitRoot-clause-runs c = λ depth stream updates kind sided firsts seconds runs.
+    absurd (split_never depth stream kind _ _ _ (subst (λ (r : Running). RunsOn depth stream (query_of kind) (block_of r) (numbers_of r)) c.in-SplitRoot.is runs))
