@@ -4,7 +4,7 @@ mod HelperKept
 mod NextAsked
 mod QuestionsLeft
 pub mod Refusals
-mod Refused
+pub mod Refused
 pub mod PromisedRuns
 mod SeatAsks
 mod StoreHeard
