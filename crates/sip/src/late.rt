@@ -100,6 +100,34 @@ impl<'a> Read for LateReader<'a> {
     }
 }
 
+impl<'a> LateReader<'a> {
+    /// Reads a file again: it has to be a regular one, since another has no bytes any more.
+    fn read_again(&mut self, buf: &mut [u8]) -> io::Result<usize> {
+        if self.late.file.is_none() && !fs::metadata(&self.late.rt, self.late.name)?.is_file() {
+            return Err(io::Error::from(ErrorKind::NotFound));
+        }
+        self.read(buf)
+    }
+}
+
+/// A file of a second source.
+#[derive(Drop)]
+pub(crate) enum SecondFile<'a> {
+    /// One of its own, which was opened.
+    Own(File),
+    /// That of the first source, which is read again.
+    Again(LateReader<'a>),
+}
+
+impl<'a> Read for SecondFile<'a> {
+    fn read(&mut self, buf: &mut [u8]) -> io::Result<usize> {
+        match self {
+            SecondFile::Own(file) => file.read(buf),
+            SecondFile::Again(late) => late.read_again(buf),
+        }
+    }
+}
+
 /// A file that is made or emptied when it is first written: until then it is as it was.
 #[derive(Drop)]
 pub(crate) struct LateWriter<'a> {

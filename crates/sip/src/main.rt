@@ -29,6 +29,7 @@ ghost use Rattle.sip_words.specs.Words.{IsSpelled, Spells, IsRefusedAt};
 
 use crate::asking::ask_ending;
 use crate::ends::{FromEnd, ToEnd, from_end, from_file, regular, stream_file, to_end, to_file};
+use crate::late::{LateReader, SecondFile};
 use crate::sketching::sketch_ending;
 use crate::start::{stand_ins, words};
 use crate::store::obey_stored;
@@ -39,7 +40,8 @@ use sip_advice::{
 use sip_cli::{Lines, OPENING_FROM, OPENING_TO, ToldLink, ToldSource, obey, panel, play};
 use sip_keeping::{asks_sketch, sketch_verb};
 use sip_ports::{
-    FileSink, FileSource, NullSink, Sink, Source, StderrSink, StdoutSink, TwoWayLink, write_whole,
+    FileSink, FileSource, NullSink, ReaderSource, Sink, Source, StderrSink, StdoutSink, TwoWayLink,
+    write_whole,
 };
 use sip_stream::MadeSource;
 use sip_vector::{Depth, Negatives};
@@ -187,19 +189,26 @@ fn made(
     Box::new(rt.alloc(), ToldSource::new(command, made, lines(rt, tells))).ok()
 }
 
-/// A source over a file to read; `None` where memory is refused.
+/// The second source: over a file of its own, or over that of the first one, which is read again;
+/// `None` where memory is refused.
 ///
 /// What reads through a buffer stands on the heap, and is made in a call of its own, so that the
 /// stack has the buffer no longer than that.
 #[inline(never)]
-fn source(
+fn second<'a>(
     rt: &HostRuntime,
-    words: &Words,
-    opening: Opening,
+    words: &'a Words,
+    command: &Command,
+    plan: &PortPlan,
     noted: &mut Noted,
-) -> Option<Box<FileSource>> {
-    let file = opened(rt, words, opening, &mut noted.second);
-    Box::new(rt.alloc(), FileSource::new(file)).ok()
+) -> Option<Box<ReaderSource<SecondFile<'a>>>> {
+    let file = match command {
+        Command::Serve { .. } => {
+            LateReader::of(rt, words, plan.first, None).map(SecondFile::Again)
+        }
+        _ => opened(rt, words, plan.second, &mut noted.second).map(SecondFile::Own),
+    };
+    Box::new(rt.alloc(), ReaderSource::new(file)).ok()
 }
 
 /// The link, which says what it waits for.
@@ -252,8 +261,8 @@ fn record(
 
 /// The ports of a run, but for the first source and what keeps the transcript.
 #[derive(Drop)]
-struct RunPorts {
-    second: Box<FileSource>,
+struct RunPorts<'a> {
+    second: Box<ReaderSource<SecondFile<'a>>>,
     peer: Box<Peer>,
 }
 
@@ -263,7 +272,7 @@ fn obey_keeping<S: Source, C: Sink>(
     rt: &HostRuntime,
     command: &Command,
     first: &mut S,
-    held: &mut RunPorts,
+    held: &mut RunPorts<'_>,
     keep: &mut C,
     negatives: &mut Negatives,
 ) -> Status
@@ -318,7 +327,7 @@ fn obey_over<S: Source>(
     requires { Spells words.now command.now }
     ensures { IfSome result (λ status. Ends command.now status) }
 {
-    let second = source(rt, words, plan.second, noted)?;
+    let second = second(rt, words, command, plan, noted)?;
     let peer = link(rt, words, command, plan, noted, tells)?;
     let mut held = RunPorts { second, peer };
     // Where neither TO nor RECORD was there, they may be one file now.

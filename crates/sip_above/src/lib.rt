@@ -30,7 +30,9 @@ mod asking;
 pub mod counting;
 mod large;
 mod under_way;
+mod within;
 
 pub use asking::ask_large;
 pub use large::Large;
 pub use under_way::LargeUnderWay;
+pub use within::are_within;

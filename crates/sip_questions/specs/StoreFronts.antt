@@ -1,5 +1,6 @@
 -- Which records of its store a helper hears, and what it is told of them before.
-use Rattle.std.specs.Prelude.{◌≡◌, ℕ, ◌<◌, ◌≤◌, List, [], ◌∷◌, ◌++◌, length, take}
+use Rattle.std.specs.Prelude.{◌≡◌, ℕ, ◌<◌, ◌≤◌, Bool, true, false, List, [], ◌∷◌, ◌++◌, length}
+use Rattle.std.specs.Prelude.{map, take}
 use Rattle.std.specs.Prelude.{IfSome, Option, Some, None, Result, Ok, Err}
 use Rattle.sip_stream.specs.declared.fault.StreamFault.{StreamFault}
 use Rattle.sip_stream.specs.declared.fault.StreamFault.TheVariants as faults
@@ -8,6 +9,7 @@ use Rattle.sip_stream.specs.Records.{records, records_from}
 use Rattle.sip_vector.specs.declared.update.Side.TheVariants.{First, Second}
 use Rattle.sip_vector.specs.declared.update.Update.{Update}
 use Rattle.sip_vector.specs.Fingerprints.{fingerprint}
+use Rattle.sip_vector.specs.Splits.{absolute}
 use Rattle.sip_vector.specs.Streams.{IsLegal, weight}
 use Rattle.sip_wire.specs.declared.kind.Place.TheVariants as places
 use Rattle.sip_wire.specs.declared.message.Held.{Held}
@@ -85,13 +87,29 @@ pub record Hears (r : Recalls) (form : Form) (store left : Option (List ℕ))
   pub few : length us ≤ r.count
   pub front : IfSome store (λ bytes. IsFront r.depth form bytes left r.count us)
 
--- the front that is asked for was heard, and its end, and this is what it comes to
+-- what is heard of records: they, or the sizes of their deltas
+abbrev pub heard_of : Bool → List Update → List Update
+heard_of false us = us
+heard_of true us = map absolute us
+
+-- the front that is asked for was heard, or its sizes, and its end, and this is what it comes to
+abbrev pub HearsRecords : Bool → Recalls → Form → Option (List ℕ) → Option (List ℕ) → HelperState
+    → Result Held StoreStatus → Type 0
+HearsRecords sizes r form store left next (Ok held) =
+    (us : List Update) × Hears r form store left us
+    × (next ≡ stream_heard r.number r.depth (heard_of sizes us ∷ [])) × (held ≡ held_of us)
+HearsRecords sizes r form store left next (Err status) = IsUnheard r form store status
+
 abbrev pub HearsStore : Recalls → Form → Option (List ℕ) → Option (List ℕ) → HelperState
     → Result Held StoreStatus → Type 0
-HearsStore r form store left next (Ok held) =
+HearsStore = HearsRecords false
+
+-- the sizes of a front that comes to what is held were heard
+abbrev pub WeighsStore : Recalls → Form → Option (List ℕ) → Option (List ℕ) → Held → HelperState
+    → Type 0
+WeighsStore r form store left held weights =
     (us : List Update) × Hears r form store left us
-    × (next ≡ stream_heard r.number r.depth (us ∷ [])) × (held ≡ held_of us)
-HearsStore r form store left next (Err status) = IsUnheard r form store status
+    × (weights ≡ stream_heard r.number r.depth (map absolute us ∷ [])) × (held ≡ held_of us)
 
 -- the status of a talk whose store was read no further
 abbrev pub status_of_fault : StreamFault → StoreStatus

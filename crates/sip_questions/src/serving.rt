@@ -1,22 +1,29 @@
 //! The helper's end of a talk of questions.
 
-ghost use Rattle.std.specs.Prelude.{◌≡◌, ◌≢◌, ◌<◌, ◌⊎◌, Bool, IfSome, IsOk, IsTrue, None, OnErr};
+ghost use Rattle.std.specs.Prelude.{◌≡◌, ◌≢◌, ◌<◌, ◌≤◌, ◌⊎◌, Bool, IfSome, IsOk, IsTrue, None, OnErr};
 ghost use Rattle.std.specs.Prelude.{OnOk, Some, ◌↔◌, false};
 ghost use Rattle.sip_ports.specs.Ports.{HasCause, Lasts, Rose, SendsWhole};
 ghost use Rattle.sip_wire.specs.declared.message.Message.TheVariants as messages;
 ghost use Rattle.sip_wire.specs.declared.version.Version.TheVariants.{Two};
 ghost use Rattle.sip_wire.specs.Spelling.{fits};
 ghost use Rattle.sip_helper.specs.Turns.{depth_of};
+ghost use Rattle.sip_above.specs.Questions.{ask_of};
+ghost use Rattle.sip_above.specs.Serving.{may_follow as large_may_follow, newly_asked};
+ghost use Rattle.sip_above.specs.UnderWay as larges;
+ghost use Rattle.sip_above.specs.UnderWay.{CanReply};
 ghost use Rattle.sip_moments.specs.Serving.{may_follow};
-ghost use Rattle.sip_questions.specs.Serving.{ServesQuestions, after_answer, fresh_questions};
-ghost use Rattle.sip_questions.specs.Serving.{idle_depth, is_allowed, owed, owes, step};
-ghost use Rattle.sip_questions.specs.inside.Keeping.{questions_left};
+ghost use Rattle.sip_questions.specs.Serving.{ServesQuestions, above_depth, after_answer};
+ghost use Rattle.sip_questions.specs.Serving.{fresh_questions};
+ghost use Rattle.sip_questions.specs.Serving.{idle_depth, is_allowed, may_pose, owed, owes, step};
+ghost use Rattle.sip_questions.specs.Serving.{weighed};
+ghost use Rattle.sip_questions.specs.inside.Keeping.{IsReadAgain, questions_left};
 
+use sip_above::{Large, LargeUnderWay, are_within};
 use sip_helper::{HelpStatus, HelperCore, Helps, OutOfTurn, WANT_OF_MEMORY, put_refusal, talk};
 use sip_lookup::{Lookup, honest_place, lookup_of, put_place};
 use sip_moments::{LEAST_DEGREE, MomentUnderWay, is_too_high, side_of};
 use sip_ports::{Link, PortStop, Sink};
-use sip_vector::{Depth, Side};
+use sip_vector::{Depth, Query, Side};
 use sip_wire::{MOST_DEGREE, MOST_QUERIES, Message, Place, Version};
 use std::alloc::Global;
 use std::marker::Model;
@@ -35,10 +42,15 @@ pub struct QuestionCore {
     // How many moments were asked, and the one that is open.
     moments: u8,
     moment: Option<MomentUnderWay>,
+    // What was heard of the sizes of the deltas, where a store was read again, and the question for
+    // large entries that is open.
+    again: Option<HelperCore>,
+    large: Option<LargeUnderWay>,
 }
 
 impl Model for QuestionCore {
     ghost use Rattle.std.specs.Option.{option_map};
+    ghost use Rattle.sip_above.specs.UnderWay as larges;
     ghost use Rattle.sip_moments.specs.UnderWay.{open_of};
     ghost use Rattle.sip_questions.specs.Serving.{QuestionHelper};
     ghost use Rattle.sip_questions.specs.inside.Keeping.{IsCoherent};
@@ -51,9 +63,12 @@ impl Model for QuestionCore {
       sought = h.sought;
       moments = h.moments;
       moment = option_map open_of h.moment;
+      again = h.again;
+      large = option_map larges.open_of h.large;
     } };
 
-    ghost invariant = { λ h. IsCoherent h.core h.lookups h.sought h.moments h.moment };
+    ghost invariant = { λ h. IsCoherent h.core h.lookups h.sought h.moments h.moment h.again
+        h.large };
 }
 
 impl QuestionCore {
@@ -68,6 +83,8 @@ impl QuestionCore {
             sought: None,
             moments: 0,
             moment: None,
+            again: None,
+            large: None,
         }
     }
 
@@ -82,6 +99,8 @@ impl QuestionCore {
             sought: None,
             moments: 0,
             moment: None,
+            again: None,
+            large: None,
         }
     }
 
@@ -92,14 +111,74 @@ impl QuestionCore {
         self.core
     }
 
-    /// The depth of a stream that has ended, where no query and no moment is open.
+    /// The depth of a stream that has ended, where nothing is open.
     fn idle(&self) -> Option<Depth>
         ensures { result ≡ idle_depth self.now }
     {
-        if self.core.query_open() || self.moment.is_some() {
+        if self.core.query_open() || self.moment.is_some() || self.large.is_some() {
             return None;
         }
         self.core.whole()
+    }
+
+    /// The depth of the stream, where large entries are asked for and nothing is open.
+    pub(crate) fn above_depth(&self, message: &Message) -> Option<Depth>
+        ensures { result ≡ above_depth self.now message.now }
+    {
+        match message {
+            Message::Query(Query::Above { .. }) if self.core.spoken() == Version::Two => self.idle(),
+            _ => None,
+        }
+    }
+
+    /// Takes the sizes of the deltas, by which large entries are answered from then on.
+    pub(crate) fn weigh(&mut self, again: HelperCore)
+        requires closed { self.old.large ≡ None }
+        requires read { IsReadAgain self.old.helper again }
+        ensures { self.new ≡ record self.old { again = Some again } }
+    {
+        self.again = Some(again);
+    }
+
+    /// What the replies about large entries are made from: refused for want of memory where the
+    /// sizes of the deltas were not heard, or are not those of the entries.
+    fn open_large(&self, large: Large) -> LargeUnderWay
+        requires some { 1 ≤ large.at_least }
+        requires levels { 1 ≤ depth_of self.now.helper.heard }
+        ensures asked { (refused : Bool) × (larges.open_of result ≡ newly_asked large refused) }
+        ensures ready { CanReply (depth_of self.now.helper.heard)
+            (weighed self.now.helper self.now.again large.side) result }
+    {
+        let Some(again) = &self.again else {
+            return LargeUnderWay::refused(large);
+        };
+        let (values, weights) = (self.core.vector(large.side), again.vector(large.side));
+        match (values, weights) {
+            (Some(values), Some(weights)) if are_within(values, weights) => {
+                LargeUnderWay::begin(self.alloc, values, weights, large)
+            }
+            _ => LargeUnderWay::refused(large),
+        }
+    }
+
+    /// Takes a question for large entries, where it may be asked, and the memory that its replies
+    /// want.
+    fn pose_large(&mut self, large: Large) -> Result<(), OutOfTurn>
+        requires some { 1 ≤ large.at_least }
+        ensures turn { IsOk result ↔ IsTrue (may_pose self.old) }
+        ensures asked { OnOk result ((refused : Bool)
+            × (self.new ≡ step self.old refused (ask_of large))) }
+        ensures same { OnErr result (self.new ≡ self.old) }
+    {
+        let Some(_) = self.idle() else {
+            return Err(OutOfTurn);
+        };
+        if self.core.spoken() != Version::Two {
+            return Err(OutOfTurn);
+        }
+        self.core.count_query()?;
+        self.large = Some(self.open_large(large));
+        Ok(())
     }
 
     /// Takes a lookup, where it may be asked: its place is owed then.
@@ -154,6 +233,7 @@ impl QuestionCore {
 
     /// Takes a challenge while a moment is open: no other message may come then, but a Bye.
     fn learn(&mut self, message: &Message) -> Result<(), OutOfTurn>
+        requires closed { self.old.large ≡ None }
         requires open { self.old.moment ≢ None }
         requires fits { IsTrue (fits Two message.now) }
         ensures turn { IfSome self.old.moment (λ o. IsOk result
@@ -175,6 +255,52 @@ impl QuestionCore {
         }
     }
 
+    /// Takes a challenge while large entries are open: no other message may come then, but a Bye.
+    fn learn_large(&mut self, message: &Message) -> Result<(), OutOfTurn>
+        requires open { self.old.large ≢ None }
+        requires fits { IsTrue (fits Two message.now) }
+        ensures turn { IfSome self.old.large (λ o. IsOk result
+            ↔ IsTrue (large_may_follow (depth_of self.old.helper.heard) o message.now)) }
+        ensures heard { OnOk result (self.new ≡ step self.old false message.now) }
+        ensures stream { OnOk result (self.new.helper ≡ self.old.helper) }
+        ensures fewer { OnOk result (questions_left self.new < questions_left self.old) }
+        ensures same { OnErr result (self.new ≡ self.old) }
+    {
+        let Some(large) = &mut self.large else {
+            return Err(OutOfTurn);
+        };
+        let Some(depth) = self.core.whole() else {
+            return Err(OutOfTurn);
+        };
+        match message {
+            Message::Reveal { challenge } => large.reveal(depth.get(), *challenge),
+            _ => Err(OutOfTurn),
+        }
+    }
+
+    /// Sends the reply that is owed about large entries.
+    fn say_level<K: Sink>(&mut self, out: &mut K) -> Result<(), PortStop>
+        requires none { self.old.sought ≡ None }
+        requires open { self.old.large ≢ None }
+        requires owes { IsTrue (owes self.old) }
+        ensures talk { SendsWhole (K.talk out.old) (K.talk out.new) result (owed self.old) }
+        ensures given { OnOk result (self.new ≡ after_answer self.old) }
+        ensures cause { HasCause K.faults K.wants K.is_sure out.old out.new result }
+    {
+        let Some(large) = &self.large else {
+            return Ok(());
+        };
+        large.put_reply(out)?;
+        let Some(depth) = self.core.whole() else {
+            return Ok(());
+        };
+        self.large = match self.large.take() {
+            Some(large) => large.after_reply(depth.get()),
+            None => None,
+        };
+        Ok(())
+    }
+
     /// Says the place of a lookup's answer, or refuses for want of memory.
     fn say_place<K: Sink>(&mut self, lookup: Lookup, out: &mut K) -> Result<(), PortStop>
         requires sought { self.old.sought ≡ Some lookup }
@@ -193,6 +319,7 @@ impl QuestionCore {
     /// Sends the reply that is owed about the open moment.
     fn say_round<K: Sink>(&mut self, out: &mut K) -> Result<(), PortStop>
         requires none { self.old.sought ≡ None }
+        requires closed { self.old.large ≡ None }
         requires open { self.old.moment ≢ None }
         requires owes { IsTrue (owes self.old) }
         ensures talk { SendsWhole (K.talk out.old) (K.talk out.new) result (owed self.old) }
@@ -239,8 +366,15 @@ impl Helps for QuestionCore {
         match message {
             Message::AskLook { code, item } => self.seek(*code, *item),
             Message::AskMoment { side, degree } => self.pose(*side, *degree),
+            Message::Query(Query::Above { side, at_least }) => self.pose_large(Large {
+                side: *side,
+                at_least: *at_least,
+            }),
             Message::Bye => self.core.hear(message),
             _ => {
+                if self.large.is_some() {
+                    return self.learn_large(message);
+                }
                 if self.moment.is_some() {
                     return self.learn(message);
                 }
@@ -250,10 +384,11 @@ impl Helps for QuestionCore {
     }
 
     fn owes_reply(&self) -> bool {
-        match (&self.sought, &self.moment) {
-            (Some(_), _) => true,
-            (None, Some(moment)) => moment.is_owed(),
-            (None, None) => self.core.owes(),
+        match (&self.sought, &self.large, &self.moment) {
+            (Some(_), _, _) => true,
+            (None, Some(large), _) => large.is_owed(),
+            (None, None, Some(moment)) => moment.is_owed(),
+            (None, None, None) => self.core.owes(),
         }
     }
 
@@ -265,6 +400,9 @@ impl Helps for QuestionCore {
         if let Some(lookup) = self.sought {
             return self.say_place(lookup, out);
         }
+        if self.large.is_some() {
+            return self.say_level(out);
+        }
         if self.moment.is_some() {
             return self.say_round(out);
         }
@@ -275,8 +413,9 @@ impl Helps for QuestionCore {
 /// Hears a talk of questions and answers, until a Bye. Frames are in the version of the opening,
 /// and in version 1 up to it.
 ///
-/// The stream and queries are heard as by `sip_helper::serve`. Behind the stream, where neither a
-/// query nor a moment is open, a lookup and a moment may be asked too, up to 16 of each. To a
+/// The stream and queries are heard as by `sip_helper::serve`. Behind the stream, where nothing is
+/// open, a lookup and a moment may be asked too, up to 16 of each, and large entries, as one of the
+/// queries: they are refused for want of memory, since the records are not there to be weighed. To a
 /// lookup the place of its answer goes out, or a refusal where memory was refused while the stream
 /// was heard; nothing is open behind it, so the query about its interval is one of the 16 queries.
 /// To a moment the claim and the first round polynomial go out, and behind each challenge the next

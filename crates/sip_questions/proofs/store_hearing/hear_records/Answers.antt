@@ -10,11 +10,11 @@ use Rattle.sip_stream.specs.declared.fault.StreamFault.{StreamFault}
 use Rattle.sip_stream.specs.Reading.{Reading}
 use Rattle.sip_helper.proofs.Turning.{on_ok_holds}
 use Rattle.sip_questions.specs.declared.store_status.StoreStatus.TheVariants as statuses
-use Rattle.sip_questions.specs.StoreFronts.{status_of_fault}
+use Rattle.sip_questions.specs.StoreFronts.{heard_of, status_of_fault}
 use Rattle.sip_questions.specs.inside.StoreHearing.{IsReadOut, StopsWithin}
 use Rattle.sip_questions.proofs.StoreHeard.{depth_is, end_fits, held_told, none_legal, shown_some, whole_then}
 use Rattle.sip_questions.proofs.StoreReading.{hears_front, read_only, unheard}
-use Rattle.sip_questions.proofs.store_hearing.hear_store.Goals as goal
+use Rattle.sip_questions.proofs.store_hearing.hear_records.Goals as goal
 
 pub hear_front-requires-clause-behind : goal.hear_front-requires-clause-behind
 hear_front-requires-clause-behind g c = c.resumed-reader.ensures.after [] (none_legal c.in-Some.depth) (sym c.nothing_told.ensures)
@@ -60,13 +60,13 @@ returns-clause-hears g c = λ r refused is same.
     let ended = subst (λ n. length us < n → IsReadOut c.resumed-reader.result store left) same out in
     let went : is_err c.hear.result ≡ false = search rules in
     let last = on_ok_holds _ c.hear.result went c.hear.ensures.heard in
-    let next = last.1 ∙ ap (λ (h : HelperState). step h last.0 messages.EndStream) (hears.heard.1 ∙ ap (λ (h : HelperState). step h hears.heard.0 (messages.Updates (record { items = us }))) is) in
+    let next = last.1 ∙ ap (λ (h : HelperState). step h last.0 messages.EndStream) (hears.heard.1 ∙ ap (λ (h : HelperState). step h hears.heard.0 (messages.Updates (record { items = heard_of c.args.sizes us }))) is) in
     let there : is_none c.vector.result ≡ false = search rules in
     let vector = shown_some _ _ c.vector.result there c.vector.ensures.shown in
     let some : Some c.in-Some-tally.tally ≡ Some (tally us) = sym c.in-Some-tally.is ∙ c.tally.ensures ∙ hears.takes.tells [] unread told in
     let one : c.in-Some-tally.tally ≡ tally us = cc in (
       us,
       hears_front r c.args.form c.resumed-reader.result c.hear_front.new.reader store left us (ap (λ (x : Reading). x.depth) behind ∙ depth) (ap (λ (x : Reading). x.form) behind) unread hears.takes most ended,
-      whole_then r.number r.depth refused hears.heard.0 last.0 us c.hear.new.self vector.0 next vector.1,
+      whole_then r.number r.depth refused hears.heard.0 last.0 (heard_of c.args.sizes us) c.hear.new.self vector.0 next vector.1,
       held_told c.in-Some-tally.tally us c.get.result one c.get.ensures,
     )
