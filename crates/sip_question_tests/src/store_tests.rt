@@ -2,9 +2,7 @@
 ghost use Rattle.std.specs.Prelude.{◌≤◌};
 
 use crate::facts::expect;
-use crate::store_rows::{
-    BAD, HELD_4, OPEN, RECALL_ALL, RECORDS, SERVED, STOPPED, StoreRow,
-};
+use crate::store_rows::{BAD, HELD_4, OPEN, RECALL_ALL, RECORDS, SERVED, STOPPED, StoreRow};
 use sip_check_tests::events::sent_in;
 use sip_check_tests::frames::BYE;
 use sip_field::OutOfMemory;

@@ -99,20 +99,33 @@ const ALL: [&[u8]; 4] = [&OPEN, &RECALL_ALL, &BYE, &BYE];
 #[test]
 fn a_store_is_read_once_it_is_known_how_far(rt: HostRuntime) -> Result<(), Fail> {
     let over = (Form::Binary, RECORDS.as_slice());
-    let before = served(rt.alloc(), over, (&[&OPEN, &RECALL_ALL[..10]], false), (&[1], &[]))?;
+    let before = served(
+        rt.alloc(),
+        over,
+        (&[&OPEN, &RECALL_ALL[..10]], false),
+        (&[1], &[]),
+    )?;
     let behind = served(rt.alloc(), over, (&ALL, false), (&[], &[]))?;
-    expect(&rt, "before", &[
-        before.status == None,
-        before.taken == 15,
-        !before.has_read,
-        before.sent.is_empty(),
-    ]);
-    expect(&rt, "behind", &[
-        behind.status == Some(StoreStatus::Served),
-        behind.taken == 19,
-        behind.has_read,
-        behind.sent.as_slice() == HELD_4.as_slice(),
-    ]);
+    expect(
+        &rt,
+        "before",
+        &[
+            before.status == None,
+            before.taken == 15,
+            !before.has_read,
+            before.sent.is_empty(),
+        ],
+    );
+    expect(
+        &rt,
+        "behind",
+        &[
+            behind.status == Some(StoreStatus::Served),
+            behind.taken == 19,
+            behind.has_read,
+            behind.sent.as_slice() == HELD_4.as_slice(),
+        ],
+    );
     Ok(())
 }
 
@@ -121,15 +134,23 @@ fn a_store_or_a_sink_that_fails_ends_the_talk(rt: HostRuntime) -> Result<(), Fai
     let over = (Form::Binary, RECORDS.as_slice());
     let unread = served(rt.alloc(), over, (&ALL, true), (&[2], &[]))?;
     let unsent = served(rt.alloc(), over, (&ALL, true), (&[], &[2]))?;
-    expect(&rt, "store", &[
-        unread.status == Some(StoreStatus::ReadFault),
-        unread.taken == 16,
-        unread.sent.is_empty(),
-    ]);
-    expect(&rt, "sink", &[
-        unsent.status == Some(StoreStatus::PeerFault),
-        unsent.taken == 16,
-        unsent.sent.as_slice() == &HELD_4[..5],
-    ]);
+    expect(
+        &rt,
+        "store",
+        &[
+            unread.status == Some(StoreStatus::ReadFault),
+            unread.taken == 16,
+            unread.sent.is_empty(),
+        ],
+    );
+    expect(
+        &rt,
+        "sink",
+        &[
+            unsent.status == Some(StoreStatus::PeerFault),
+            unsent.taken == 16,
+            unsent.sent.as_slice() == &HELD_4[..5],
+        ],
+    );
     Ok(())
 }

@@ -48,8 +48,8 @@ returns-in-Part-clause-passes g c form read events was piece put =
     let after = wait_part form events a.core was at.0 c.new-recalling.result at.1 recalls_left (λ h. true) a.coming c.look.new.self came.0 c.look.new.helper put.at came.2 in
     passes_unread form read s (is_read a) (is_read s) left left refl out now piece events
     (subst (λ o. Passes out now piece events (λ all. IsStoreServed form o all s)) (sym at.2)
-        (passes_piece out now events before (frame_bytes was.frame) (frame_bytes a.coming.frame) piece came.0 (λ all. IsStoreServed form None all s) at.0.part.last put.puts came.1
-        (still form ((before ++ ins (frame_bytes a.coming.frame)) ++ outs came.0) s put.same_form None Recalling c.requires.put.going c.requires.stage after)))
+    (passes_piece out now events before (frame_bytes was.frame) (frame_bytes a.coming.frame) piece came.0 (λ all. IsStoreServed form None all s) at.0.part.last put.puts came.1
+    (still form ((before ++ ins (frame_bytes a.coming.frame)) ++ outs came.0) s put.same_form None Recalling c.requires.put.going c.requires.stage after)))
 
 pub returns-in-Part-clause-silent : goal.returns-in-Part-clause-silent
 returns-in-Part-clause-silent g c = λ unread none. went_silent (g.K.Sink.talk c.args.out.now) (g.K.Sink.talk c.look.new.out) c.in-Part.ensures.comes.0 c.in-Part.ensures.comes.2.silent c.in-Part.ensures.comes.1
@@ -67,8 +67,8 @@ returns-in-End-clause-passes g c form read events was piece put =
     let after = wait_end form events a.core was at.0 c.new-recalling.result at.1 recalls_left (λ h. true) a.coming c.look.new.self came.0 c.look.new.helper put.at c.in-End.how came.2 in
     passes_unread form read s (is_read a) (is_read s) left left refl out now piece events
     (subst (λ o. Passes out now piece events (λ all. IsStoreServed form o all s)) (sym at.2)
-        (passes_piece out now events before (frame_bytes was.frame) (frame_bytes a.coming.frame) piece came.0 (λ all. IsStoreServed form None all s) at.0.part.last put.puts came.1
-        (over form ((before ++ ins (frame_bytes a.coming.frame)) ++ outs came.0) s put.same_form None (status_of c.in-End.how) (ap (λ x. Some x) c.from.ensures) after)))
+    (passes_piece out now events before (frame_bytes was.frame) (frame_bytes a.coming.frame) piece came.0 (λ all. IsStoreServed form None all s) at.0.part.last put.puts came.1
+    (over form ((before ++ ins (frame_bytes a.coming.frame)) ++ outs came.0) s put.same_form None (status_of c.in-End.how) (ap (λ x. Some x) c.from.ensures) after)))
 
 pub returns-in-End-clause-causes : goal.returns-in-End-clause-causes
 returns-in-End-clause-causes g c = record {
