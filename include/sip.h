@@ -1,16 +1,18 @@
 /*
  * sip: what a verifier of streaming interactive proofs keeps of a stream.
  *
- * A sketch keeps a few numbers of a stream of updates, at secret challenges. Later it is asked, by
- * the command `sip ask`: whoever has the stream answers, and each answer is proved to the sketch.
+ * A sketch keeps a few numbers of a stream of updates, at secret challenges. Later it is asked:
+ * whoever has the stream answers, and each answer is proved to the sketch. Nothing here opens a file
+ * or a socket: bytes are handed over in any pieces, and bytes that are due are taken. The other end
+ * is `sip serve`, or whatever keeps to its protocol.
  *
  * HANDLES. What the library keeps stands behind a handle, a small struct of the caller's. All zeros
  * are an empty one: `sip_sketch sketch = SIP_EMPTY_HANDLE;`. A call that begins something wants an
- * empty handle, and sip_sketch_free leaves an empty one: freeing an empty handle does nothing, so
- * that freeing twice is harmless. The parts of a handle are the library's: read and write none, and
- * copy no handle (a copy of a full one would be freed twice).
+ * empty handle, and a free leaves an empty one: freeing an empty handle does nothing, so that
+ * freeing twice is harmless. The parts of a handle are the library's: read and write none, and copy
+ * no handle (a copy of a full one would be freed twice).
  *
- * THREADS. One call at a time uses a handle. A sketch may go from thread to thread, with whatever
+ * THREADS. One call at a time uses a handle. A handle may go from thread to thread, with whatever
  * orders the two (a lock, a start, a join). The library has no state of its own: calls on different
  * handles never meet.
  *
@@ -45,7 +47,9 @@ typedef enum sip_status {
     SIP_NO_MEMORY = 1,    /* memory was refused */
     SIP_EMPTY = 2,        /* the handle is empty: nothing was begun in it, or it was freed */
     SIP_FULL = 3,         /* the handle in which something was to begin is not empty */
+    SIP_OTHER_HANDLE = 4, /* the handle has something of another type */
     SIP_NO_ROOM = 5,      /* the buffer is too short; the size that is wanted was written */
+    SIP_NOT_NOW = 6,      /* the call is not for this step */
     SIP_BAD_LENGTH = 7,   /* a count or a length is out of its range */
     SIP_BAD_CODE = 8,     /* a number stands for no kind of seat and for no form of records */
     SIP_BAD_DEPTH = 16,   /* the depth is not 1 to 48 */
@@ -59,7 +63,17 @@ typedef enum sip_status {
     SIP_OTHER_SHAPE = 32, /* the part has another depth, number of parts, kinds or challenges */
     SIP_WHOLE = 33,       /* all parts are in the part: a sum of it would be a copy to be asked */
     SIP_USED_SEAT = 34,   /* a question has used a seat of the part */
-    SIP_NOT_NEXT = 35     /* the part's first part is not the one behind the sketch's last */
+    SIP_NOT_NEXT = 35,    /* the part's first part is not the one behind the sketch's last */
+    SIP_NOT_WHOLE = 40,   /* not all parts of the stream are in the sketch */
+    SIP_UNFIT = 41,       /* a question does not fit the depth */
+    SIP_SIGNED = 42,      /* a question is for large entries of a side that had a delta below 0 */
+    SIP_NO_SEAT = 43,     /* no unused seat serves a question */
+    SIP_TOO_WIDE = 44,    /* an answer may have more entries than a reply has room for */
+    SIP_TOO_HIGH = 45,    /* a moment may be greater than a claim */
+    SIP_REJECTED = 48,    /* the replies to a question have a fault: they are not believed */
+    SIP_OUT_OF_STEP = 49, /* the other end holds another stream */
+    SIP_BAD_FRAME = 50,   /* what came first does not say what the other end holds */
+    SIP_PEER_CLOSED = 51  /* the other end closed before the end of the talk */
 } sip_status;
 
 /* The version of the library: the first number times 2^16, the second times 2^8, and the third. */
@@ -178,6 +192,155 @@ sip_status sip_sketch_seat(sip_sketch *sketch, size_t place, uint8_t *kind, bool
 
 /* Lets go of a sketch. The handle is empty then. */
 void sip_sketch_free(sip_sketch *sketch);
+
+/* ---- a sketch that is asked ---- */
+
+/* What is asked. */
+typedef enum sip_question_kind {
+    SIP_SUB = 1,     /* the entries of side 0 from lo to hi that are not 0: pairs */
+    SIP_RANGE = 2,   /* the sum of the entries of the side from lo to hi */
+    SIP_F2 = 3,      /* the sum of the squares of the entries of the side */
+    SIP_INNER = 4,   /* the inner product of the sides */
+    SIP_HEAVY = 5,   /* the entries of the side of at least lo, which is at least 1: pairs */
+    SIP_SHARE = 6,   /* the entries of the side of at least lo/hi of its total: pairs */
+    SIP_INDEX = 7,   /* the value of side 0 at item lo */
+    SIP_PRED = 8,    /* the nearest entry of side 0 that is not 0, at item lo or below */
+    SIP_SUCC = 9,    /* the same at item lo or above */
+    SIP_MOMENT = 10  /* the sum of the power lo, 3 to 8, of the entries of the side */
+} sip_question_kind;
+
+#define SIP_MOST_QUESTIONS 16
+#define SIP_MOST_DUE 64 /* bytes that are due at once */
+
+typedef struct sip_question {
+    uint64_t lo, hi; /* what the kind has no use for is not looked at */
+    uint8_t kind;    /* a sip_question_kind */
+    uint8_t side;    /* 0 or 1 */
+} sip_question;
+
+typedef struct sip_entry {
+    uint64_t item;
+    int64_t value;
+} sip_entry;
+
+/* What an answer is. */
+typedef enum sip_answer_kind {
+    SIP_NUMBER = 1, /* `number` */
+    SIP_PAIRS = 2,  /* so many `pairs`, which sip_asking_pairs copies */
+    SIP_NEAREST = 3, /* the entry of `item` with the value `number` */
+    SIP_NONE = 4    /* that there is no such entry */
+} sip_answer_kind;
+
+typedef struct sip_answer {
+    int64_t number;
+    uint64_t item;
+    size_t pairs;
+    uint8_t question; /* its number, from 1 */
+    uint8_t kind;     /* a sip_answer_kind */
+} sip_answer;
+
+/* Why replies were rejected. */
+typedef enum sip_reason {
+    SIP_REASON_CLOSED = 1,         /* the other end closed inside the reply */
+    SIP_REASON_BAD_KIND = 2,       /* a frame that may not stand there */
+    SIP_REASON_BAD_LENGTH = 3,     /* a length that the frame does not have */
+    SIP_REASON_BAD_COUNT = 4,      /* a count, a code or flags that do not fit the length */
+    SIP_REASON_BAD_NUMBER = 5,     /* a number out of its range */
+    SIP_REASON_REFUSED = 6,        /* the other end refused, with this `refusal` */
+    SIP_REASON_BAD_ORDER = 7,      /* an item out of order, out of place or known already */
+    SIP_REASON_TOO_MANY = 8,       /* more than an answer may have */
+    SIP_REASON_BAD_FLAGS = 9,      /* other siblings than were asked for */
+    SIP_REASON_HEAVY_SIBLING = 10, /* a node that would have to be shown is hidden */
+    SIP_REASON_PAIRS = 11,         /* a node without its sibling */
+    SIP_REASON_LIGHT_PARENT = 12,  /* a pair that need not be shown */
+    SIP_REASON_SUM = 13,           /* a round polynomial that does not sum to what it must */
+    SIP_REASON_TOTAL = 14,         /* another total */
+    SIP_REASON_ROOT = 15,          /* another value at the end than the sketch has */
+    SIP_REASON_BAD_FOUND = 16,     /* a place that answers no such question */
+    SIP_REASON_NOT_ALONE = 17      /* other entries between */
+} sip_reason;
+
+/* How asking ended, or why it does not begin, beside the status. What the status says nothing of is
+   0. */
+typedef struct sip_ending {
+    uint64_t records;     /* SIP_OUT_OF_STEP: how many records the other end holds */
+    uint64_t weight_0;    /* and their weight of side 0 */
+    uint64_t weight_1;    /* of side 1 */
+    uint64_t fingerprint; /* and fingerprint */
+    uint8_t question;     /* the number of the question that is meant, from 1 */
+    uint8_t round;        /* SIP_REJECTED: the number of the reply, or the depth behind the last */
+    uint8_t reason;       /* SIP_REJECTED: a sip_reason */
+    uint8_t refusal;      /* SIP_REASON_REFUSED: the code */
+} sip_ending;
+
+/* What is wanted before anything goes on. */
+typedef enum sip_wants {
+    SIP_WANTS_SEND = 1,   /* send what is due: sip_asking_due */
+    SIP_WANTS_BYTES = 2,  /* hand over what comes, or that nothing will: sip_asking_feed, _close */
+    SIP_WANTS_STORE = 3,  /* store the file: sip_asking_to_store, _stored */
+    SIP_WANTS_READ = 4,   /* read the answer: sip_asking_answer, _pairs, _next */
+    SIP_WANTS_NOTHING = 5 /* it ended: sip_asking_ended */
+} sip_wants;
+
+typedef struct sip_asking {
+    void *at;
+    bool full;
+} sip_asking;
+
+/* Begins to ask a sketch 1 to SIP_MOST_QUESTIONS questions, in order, in an empty handle. On SIP_OK
+   the sketch is in `asking` and its own handle is empty: what is left of it then is what was stored.
+   Else the sketch stays where it is. No seat is used by that.
+   The first of: SIP_FULL; SIP_EMPTY of the sketch; SIP_BAD_LENGTH; SIP_BAD_CODE; SIP_NOT_WHOLE;
+   SIP_UNFIT; SIP_SIGNED, SIP_NO_SEAT; SIP_TOO_WIDE, SIP_TOO_HIGH: from SIP_NOT_WHOLE on *ending is
+   written. SIP_NO_MEMORY at any step. All memory is taken here: the sketch once more, a frame of
+   8,709 bytes, and for each question that takes a seat a frame and room for its answer. */
+sip_status sip_asking_begin(sip_asking *asking, sip_sketch *sketch, const sip_question *questions,
+                            size_t count, sip_ending *ending);
+
+/* Tells what is wanted, a sip_wants. SIP_EMPTY. */
+sip_status sip_asking_wants(sip_asking *asking, uint8_t *wants);
+
+/* Hands out the bytes that are due, each once: *count of them, 0 where none are.
+   SIP_EMPTY; SIP_NO_ROOM with room for less than SIP_MOST_DUE, which is written to *count. */
+sip_status sip_asking_due(sip_asking *asking, uint8_t *to, size_t room, size_t *count);
+
+/* Takes bytes that came, in any pieces: *taken of them, which are all while some are awaited, and
+   none behind the last one that is. SIP_EMPTY. */
+sip_status sip_asking_feed(sip_asking *asking, const uint8_t *bytes, size_t length,
+                           size_t *taken);
+
+/* The other end closed: where bytes were to come, it ended for that. SIP_EMPTY. */
+sip_status sip_asking_close(sip_asking *asking);
+
+/* Writes the bytes of the sketch with the next question's seat used to the front of `to`: *size of
+   them. Store them in the place of the sketch so that no crash brings it back as it was: in a new
+   file, synced, which is renamed to its name, and the folder synced.
+   SIP_EMPTY; SIP_NOT_NOW; SIP_NO_ROOM with room for less: *size is written. */
+sip_status sip_asking_to_store(sip_asking *asking, uint8_t *to, size_t room, size_t *size);
+
+/* They are stored: from here on bytes of the question are due, and its seat is used. To say so too
+   early breaks the one rule that a sketch has, that no seat serves two questions.
+   SIP_EMPTY; SIP_NOT_NOW. */
+sip_status sip_asking_stored(sip_asking *asking);
+
+/* Tells the answer to the question at hand. SIP_EMPTY; SIP_NOT_NOW. */
+sip_status sip_asking_answer(sip_asking *asking, sip_answer *answer);
+
+/* Copies the pairs of the answer from the place `from` on, rising by item, to the front of `to`:
+   *count of them, as many as there are and there is room for. SIP_EMPTY. */
+sip_status sip_asking_pairs(sip_asking *asking, size_t from, sip_entry *to, size_t room,
+                            size_t *count);
+
+/* The answer was read: the next question has its turn, or the farewell is due. SIP_EMPTY;
+   SIP_NOT_NOW. */
+sip_status sip_asking_next(sip_asking *asking);
+
+/* How it ended: SIP_OK where each question was answered; SIP_REJECTED, SIP_OUT_OF_STEP,
+   SIP_BAD_FRAME, SIP_PEER_CLOSED, with *ending; SIP_NOT_NOW where it has not. SIP_EMPTY. */
+sip_status sip_asking_ended(sip_asking *asking, sip_ending *ending);
+
+/* Lets go of it. The handle is empty then. A seat whose file was stored stays used. */
+void sip_asking_free(sip_asking *asking);
 
 #ifdef __cplusplus
 }

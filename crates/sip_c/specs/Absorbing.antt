@@ -6,7 +6,7 @@ use Rattle.sip_sketch.specs.Sketches.{SketchValues}
 use Rattle.sip_sketch.specs.Standing.{Stands}
 use Rattle.sip_sketch.specs.declared.unlike.Unlike.{Unlike}
 use Rattle.sip_sketch.specs.declared.unlike.Unlike.TheVariants as reasons
-use Rattle.sip_c.specs.Handles.{Through}
+use Rattle.sip_c.specs.Handles.{OnSketch, Through}
 use Rattle.sip_c.specs.Statuses.{Answer}
 use Rattle.sip_c.specs.declared.kept.Kept.{Kept}
 use Rattle.sip_c.specs.declared.kept.Kept.TheVariants as kept
@@ -36,10 +36,11 @@ Absorbs part s answer t = MatchResult answer
     (λ _. HasAdded s part t)
     (λ why. (t ≡ s) × ((reason : Unlike) × (unlike s part ≡ Some reason) × IsFor reason why))
 
--- of two sketches this holds, the second of which stays one
+-- of two sketches this holds, the first of which stays one; what is none stays as it was
 abbrev pub OnSketches : (SketchValues → SketchValues → Answer → SketchValues → Type 0) → Kept → Kept
     → Answer → Kept → Type 0
-OnSketches P (kept.Sketch part) (kept.Sketch s) answer (kept.Sketch t) = P part s answer t
+OnSketches P (kept.Sketch part) old answer new = OnSketch (Unit {0}) (P part) old answer new
+OnSketches P (kept.Asking part) old answer new = (answer ≡ Err refusals.OtherHandle) × (new ≡ old)
 
 -- The part that a handle has comes to the sketch that another one has. The first handle stays as it
 -- was; where it is empty so does the other, which is an answer.

@@ -1,10 +1,16 @@
 pub mod Absorbing
+pub mod Asking
 pub mod Beginning
 pub mod Codes
+pub mod Endings
 pub mod Handles
 pub mod Loading
 pub mod Owned
+pub mod Posing
+pub mod Questions
+pub mod Reasons
 pub mod Records
+pub mod Rooms
 pub mod Saving
 pub mod Statuses
 pub mod Telling

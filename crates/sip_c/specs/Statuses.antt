@@ -7,6 +7,10 @@ use Rattle.sip_c.specs.declared.refusal.Refusal.TheVariants.{BadDepth, BadPart, 
 use Rattle.sip_c.specs.declared.refusal.Refusal.TheVariants.{BadSketch, BadSide, BadItem}
 use Rattle.sip_c.specs.declared.refusal.Refusal.TheVariants.{ZeroDelta, TooHeavy, OtherShape}
 use Rattle.sip_c.specs.declared.refusal.Refusal.TheVariants.{Whole, UsedSeat, NotNext}
+use Rattle.sip_c.specs.declared.refusal.Refusal.TheVariants.{OtherHandle, NotNow, NotWhole}
+use Rattle.sip_c.specs.declared.refusal.Refusal.TheVariants.{Unfit, Signed, NoSeat}
+use Rattle.sip_c.specs.declared.refusal.Refusal.TheVariants.{TooWide, TooHigh, Rejected}
+use Rattle.sip_c.specs.declared.refusal.Refusal.TheVariants.{OutOfStep, BadFrame, PeerClosed}
 
 -- the number of the status of a refusal; no two have the same
 abbrev pub refusal_number : Refusal → ℕ
@@ -28,6 +32,18 @@ refusal_number OtherShape = 32
 refusal_number Whole = 33
 refusal_number UsedSeat = 34
 refusal_number NotNext = 35
+refusal_number OtherHandle = 4
+refusal_number NotNow = 6
+refusal_number NotWhole = 40
+refusal_number Unfit = 41
+refusal_number Signed = 42
+refusal_number NoSeat = 43
+refusal_number TooWide = 44
+refusal_number TooHigh = 45
+refusal_number Rejected = 48
+refusal_number OutOfStep = 49
+refusal_number BadFrame = 50
+refusal_number PeerClosed = 51
 
 -- what a call answers, but for what it writes
 abbrev pub Answer : Type 0
@@ -39,5 +55,5 @@ number_of (Ok _) = 0
 number_of (Err why) = refusal_number why
 
 -- the number is that of the status of an answer of which this holds
-abbrev pub Answers : ℕ → (Answer → Type 0) → Type 0
-Answers number P = (answer : Answer) × (number ≡ number_of answer) × P answer
+abbrev pub IsNumberOf : ℕ → (Answer → Type 0) → Type 0
+IsNumberOf number P = (answer : Answer) × (number ≡ number_of answer) × P answer

@@ -26,6 +26,18 @@ text_of status =
     else if status == 33 then codes "all parts are in the part"
     else if status == 34 then codes "a seat of the part is used"
     else if status == 35 then codes "the part is not the next one"
+    else if status == 4 then codes "the handle has something of another type"
+    else if status == 6 then codes "the call is not for this step"
+    else if status == 40 then codes "not all parts of the stream are in"
+    else if status == 41 then codes "a question does not fit the depth"
+    else if status == 42 then codes "a question is for large entries of a side with negatives"
+    else if status == 43 then codes "no unused seat serves a question"
+    else if status == 44 then codes "an answer may have too many entries"
+    else if status == 45 then codes "a moment may be too high"
+    else if status == 48 then codes "the replies to a question were rejected"
+    else if status == 49 then codes "the other end holds another stream"
+    else if status == 50 then codes "a frame came that may not come"
+    else if status == 51 then codes "the other end closed before the end"
     else codes "no status"
 
 -- the text is in front; or its length is told where there is no room for it

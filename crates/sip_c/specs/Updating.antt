@@ -6,7 +6,7 @@ use Rattle.sip_vector.specs.Tallies.{joined, tally}
 use Rattle.sip_vector.specs.declared.update.Update.{Update}
 use Rattle.sip_sketch.specs.Sketches.{SketchValues}
 use Rattle.sip_sketch.specs.Standing.{IsKept, Stands}
-use Rattle.sip_c.specs.Handles.{OnSketch, Through}
+use Rattle.sip_c.specs.Handles.{ThroughSketch}
 use Rattle.sip_c.specs.Records.{AreRecords, codes_of}
 use Rattle.sip_c.specs.Statuses.{Answer}
 use Rattle.sip_c.specs.Weighing.{CanCome, IsFirstBad, Place, updates_of}
@@ -48,8 +48,8 @@ UpdatesBy form bytes at at' old answer new = MatchOption (width_of form)
     ((answer ≡ Err refusals.BadCode) × (new ≡ old) × (at' ≡ at))
     (λ width. ((answer ≡ Err refusals.BadLength) × (new ≡ old) × (at' ≡ at)
     × ¬ AreRecords width bytes)
-    ⊎ (AreRecords width bytes × Through (at' ≡ at)
-    (OnSketch (Updates (codes_of width bytes) at at')) old answer new))
+    ⊎ (AreRecords width bytes × ThroughSketch (at' ≡ at)
+    (Updates (codes_of width bytes) at at') old answer new))
 
 -- the sketch stays as it was, whether there is memory for its tables or not
 abbrev pub KeepsTables : SketchValues → Answer → SketchValues → Type 0

@@ -1,4 +1,5 @@
-//! The library for C: sketches behind handles. Its header is `include/sip.h`.
+//! The library for C: sketches behind handles, and sketches that are asked. Its header is
+//! `include/sip.h`.
 //!
 //! A handle is a struct that the caller gives: a pointer to a box, and whether there is one. Each
 //! call takes the box out, works on what it has, and puts it back, so that what a handle has moves
@@ -12,8 +13,11 @@
 //! - Each says of the sketch behind the handle what the call of [`sip_sketch`] says that it makes:
 //!   a sketch begins as it was asked for, is loaded of exactly its bytes and saved to them, grows
 //!   by all updates of a call or by none, and adds up with the next part of its stream.
+//! - A sketch that is asked does what [`sip_ask_steps`] says of its machine: whatever the pieces,
+//!   what was handed out, taken and stored so far is what an ask did ([`askings`], [`answering`]).
+//!   That a handle has what these calls made is a condition of them, which each of them leaves.
 //! - An empty handle, a freed one and one that is freed twice are statuses, and nothing is freed
-//!   twice.
+//!   twice. A handle may go from thread to thread.
 //!
 //! What a caller of C owes, nothing checks: that pointers are to what the header says, that no two
 //! arguments share memory, and that one call at a time uses a handle.
@@ -32,19 +36,32 @@
 //! | `Updating` | what updates do to a sketch: all of them, or none |
 //! | `Absorbing` | what the next part does to a sketch |
 //! | `Telling` | what is told of a sketch and of its seats |
+//! | `Questions` | questions as numbers |
+//! | `Posing` | how a sketch begins to be asked, and why it does not |
+//! | `Asking` | what each call does to a sketch that is asked |
+//! | `Endings`, `Reasons` | how asking ended, as numbers |
+//! | `Rooms` | the bytes that went out |
 //! | `Texts` | what statuses say |
 #![tactic(auto)]
 
 mod absorbing;
 mod adding;
+pub mod answering;
+mod answers;
+mod asker;
+pub mod askings;
 mod beginning;
 mod codes;
+mod ending;
 mod handle;
 mod kept;
 mod loading;
 mod parts;
+mod posing;
+mod questions;
 mod records;
 mod refusal;
+mod room;
 pub mod sketches;
 mod telling;
 mod testing;

@@ -42,6 +42,30 @@ pub enum Refusal {
     UsedSeat,
     /// The first part in a part is not the one behind the last one in.
     NotNext,
+    /// The handle has something of another type.
+    OtherHandle,
+    /// The call is not for this step.
+    NotNow,
+    /// Not all parts of the stream are in the sketch.
+    NotWhole,
+    /// A question does not fit the depth.
+    Unfit,
+    /// A question is for large entries of a side that had a delta below 0.
+    Signed,
+    /// No unused seat serves a question.
+    NoSeat,
+    /// An answer may have more entries than a reply has room for.
+    TooWide,
+    /// A moment may be greater than a claim.
+    TooHigh,
+    /// The replies to a question have a fault.
+    Rejected,
+    /// The other end holds another stream.
+    OutOfStep,
+    /// What came is no frame that may come.
+    BadFrame,
+    /// The other end closed before the end of the talk.
+    PeerClosed,
 }
 
 impl Refusal {
@@ -68,6 +92,18 @@ impl Refusal {
             Refusal::Whole => 33,
             Refusal::UsedSeat => 34,
             Refusal::NotNext => 35,
+            Refusal::OtherHandle => 4,
+            Refusal::NotNow => 6,
+            Refusal::NotWhole => 40,
+            Refusal::Unfit => 41,
+            Refusal::Signed => 42,
+            Refusal::NoSeat => 43,
+            Refusal::TooWide => 44,
+            Refusal::TooHigh => 45,
+            Refusal::Rejected => 48,
+            Refusal::OutOfStep => 49,
+            Refusal::BadFrame => 50,
+            Refusal::PeerClosed => 51,
         }
     }
 }

@@ -3,10 +3,10 @@
 ghost use Rattle.std.specs.Prelude.{◌≡◌, None, Some, IfErr, OnErr, OnOk};
 ghost use Rattle.sip_c.specs.Absorbing.{Absorbs, AbsorbsIn, OnSketches};
 ghost use Rattle.sip_c.specs.Beginning.{Begun, StandsAgainst, Wanted};
-ghost use Rattle.sip_c.specs.Handles.{BeginsSketch, OnSketch, Through};
+ghost use Rattle.sip_c.specs.Handles.{BeginsSketch, OnSketch, Through, ThroughSketch};
 ghost use Rattle.sip_c.specs.Loading.{IsLoaded, IsNone};
 ghost use Rattle.sip_c.specs.Saving.{Saves};
-ghost use Rattle.sip_c.specs.Statuses.{Answers};
+ghost use Rattle.sip_c.specs.Statuses.{IsNumberOf};
 ghost use Rattle.sip_c.specs.Telling.{Tells, TellsSeat};
 ghost use Rattle.sip_c.specs.Updating.{KeepsTables, Updates, UpdatesBy, width_of};
 ghost use Rattle.sip_c.specs.declared.kept.Kept.TheVariants as kept;
@@ -84,7 +84,7 @@ pub extern "C" fn sip_sketch_begin(
       part = part;
       parts = parts;
       codes = kinds.now;
-    } in Answers result (λ answer. BeginsSketch (Unit {0}) (Begun wanted)
+    } in IsNumberOf result (λ answer. BeginsSketch (Unit {0}) (Begun wanted)
         (StandsAgainst wanted) sketch.old.spot.held answer sketch.new.spot.held) }
 {
     status_of(begin_in(alloc, sketch, seed, depth, part, parts, kinds))
@@ -115,7 +115,7 @@ pub extern "C" fn sip_sketch_load(
     bytes: &[u8],
     offset: &mut usize,
 ) -> u32
-    ensures { Answers result (λ answer. BeginsSketch (offset.new ≡ offset.old)
+    ensures { IsNumberOf result (λ answer. BeginsSketch (offset.new ≡ offset.old)
         (IsLoaded bytes.now offset.old offset.new) (IsNone bytes.now offset.old offset.new)
         sketch.old.spot.held answer sketch.new.spot.held) }
 {
@@ -125,10 +125,12 @@ pub extern "C" fn sip_sketch_load(
 // ---- save
 
 fn save_kept(alloc: Global, kept: &Kept, to: &mut [u8], size: &mut usize) -> Result<(), Refusal>
-    ensures { OnSketch (Saves to.old to.new size.old size.new) kept.now result kept.now }
+    ensures { OnSketch ((to.new ≡ to.old) × (size.new ≡ size.old)) (Saves to.old to.new size.old
+        size.new) kept.now result kept.now }
 {
     match kept {
         Kept::Sketch(sketch) => save(alloc, sketch, to, size),
+        Kept::Asking(_) => Err(Refusal::OtherHandle),
     }
 }
 
@@ -138,8 +140,8 @@ fn save_in(
     to: &mut [u8],
     size: &mut usize,
 ) -> Result<(), Refusal>
-    ensures { Through ((to.new ≡ to.old) × (size.new ≡ size.old))
-        (OnSketch (Saves to.old to.new size.old size.new)) handle.old.spot.held result
+    ensures { ThroughSketch ((to.new ≡ to.old) × (size.new ≡ size.old)) (Saves to.old to.new
+        size.old size.new) handle.old.spot.held result
         handle.new.spot.held }
 {
     let Some(kept) = handle.take(alloc) else {
@@ -159,8 +161,8 @@ pub extern "C" fn sip_sketch_save(
     to: &mut [u8],
     size: &mut usize,
 ) -> u32
-    ensures { Answers result (λ answer. Through ((to.new ≡ to.old) × (size.new ≡ size.old))
-        (OnSketch (Saves to.old to.new size.old size.new)) sketch.old.spot.held answer
+    ensures { IsNumberOf result (λ answer. ThroughSketch ((to.new ≡ to.old) × (size.new ≡ size.old))
+        (Saves to.old to.new size.old size.new) sketch.old.spot.held answer
         sketch.new.spot.held) }
 {
     status_of(save_in(alloc, sketch, to, size))
@@ -169,10 +171,12 @@ pub extern "C" fn sip_sketch_save(
 // ---- update
 
 fn update_kept<C: Codes>(kept: &mut Kept, codes: &C, at: &mut usize) -> Result<(), Refusal>
-    ensures { OnSketch (Updates (C.codes codes.now) at.old at.new) kept.old result kept.new }
+    ensures { OnSketch (at.new ≡ at.old) (Updates (C.codes codes.now) at.old at.new) kept.old result
+        kept.new }
 {
     match kept {
         Kept::Sketch(sketch) => update(sketch, codes, at),
+        Kept::Asking(_) => Err(Refusal::OtherHandle),
     }
 }
 
@@ -182,7 +186,7 @@ fn update_in<C: Codes>(
     codes: &C,
     at: &mut usize,
 ) -> Result<(), Refusal>
-    ensures { Through (at.new ≡ at.old) (OnSketch (Updates (C.codes codes.now) at.old at.new))
+    ensures { ThroughSketch (at.new ≡ at.old) (Updates (C.codes codes.now) at.old at.new)
         handle.old.spot.held result handle.new.spot.held }
 {
     let Some(mut kept) = handle.take(alloc) else {
@@ -201,8 +205,8 @@ pub extern "C" fn sip_sketch_update(
     updates: &[UpdateCode],
     at: &mut usize,
 ) -> u32
-    ensures { Answers result (λ answer. Through (at.new ≡ at.old)
-        (OnSketch (Updates updates.now at.old at.new)) sketch.old.spot.held answer
+    ensures { IsNumberOf result (λ answer. ThroughSketch (at.new ≡ at.old) (Updates updates.now
+        at.old at.new) sketch.old.spot.held answer
         sketch.new.spot.held) }
 {
     let codes = CodeList { list: updates };
@@ -250,7 +254,7 @@ pub extern "C" fn sip_sketch_update_records(
     records: &[u8],
     at: &mut usize,
 ) -> u32
-    ensures { Answers result (λ answer. UpdatesBy form records.now at.old at.new
+    ensures { IsNumberOf result (λ answer. UpdatesBy form records.now at.old at.new
         sketch.old.spot.held answer sketch.new.spot.held) }
 {
     status_of(update_by_records(alloc, sketch, form, records, at))
@@ -259,18 +263,19 @@ pub extern "C" fn sip_sketch_update_records(
 // ---- tables
 
 fn keep_tables_kept(alloc: Global, kept: &mut Kept) -> Result<(), Refusal>
-    ensures { OnSketch KeepsTables kept.old result kept.new }
+    ensures { OnSketch (Unit {0}) KeepsTables kept.old result kept.new }
 {
     match kept {
         Kept::Sketch(sketch) => match sketch.keep_tables(alloc) {
             Ok(()) => Ok(()),
             Err(_) => Err(Refusal::NoMemory),
         },
+        Kept::Asking(_) => Err(Refusal::OtherHandle),
     }
 }
 
 fn keep_tables_in(alloc: Global, handle: &mut Handle) -> Result<(), Refusal>
-    ensures { Through (Unit {0}) (OnSketch KeepsTables) handle.old.spot.held result
+    ensures { ThroughSketch (Unit {0}) KeepsTables handle.old.spot.held result
         handle.new.spot.held }
 {
     let Some(mut kept) = handle.take(alloc) else {
@@ -285,7 +290,7 @@ fn keep_tables_in(alloc: Global, handle: &mut Handle) -> Result<(), Refusal>
 /// on.
 #[unsafe(no_mangle)]
 pub extern "C" fn sip_sketch_keep_tables(alloc: Global, sketch: &mut Handle) -> u32
-    ensures { Answers result (λ answer. Through (Unit {0}) (OnSketch KeepsTables)
+    ensures { IsNumberOf result (λ answer. ThroughSketch (Unit {0}) KeepsTables
         sketch.old.spot.held answer sketch.new.spot.held) }
 {
     status_of(keep_tables_in(alloc, sketch))
@@ -298,6 +303,7 @@ fn absorb_kept(kept: &mut Kept, part: &Kept) -> Result<(), Refusal>
 {
     match (kept, part) {
         (Kept::Sketch(sketch), Kept::Sketch(part)) => absorb(sketch, part),
+        _ => Err(Refusal::OtherHandle),
     }
 }
 
@@ -329,7 +335,7 @@ fn absorb_in(alloc: Global, handle: &mut Handle, other: &mut Handle) -> Result<(
 /// The part stays as it is.
 #[unsafe(no_mangle)]
 pub extern "C" fn sip_sketch_absorb(alloc: Global, sketch: &mut Handle, part: &mut Handle) -> u32
-    ensures { Answers result (λ answer. AbsorbsIn part.old.spot.held part.new.spot.held
+    ensures { IsNumberOf result (λ answer. AbsorbsIn part.old.spot.held part.new.spot.held
         sketch.old.spot.held answer sketch.new.spot.held) }
 {
     status_of(absorb_in(alloc, sketch, part))
@@ -339,18 +345,19 @@ pub extern "C" fn sip_sketch_absorb(alloc: Global, sketch: &mut Handle, part: &m
 // ---- what is told
 
 fn tell_kept(kept: &Kept, told: &mut SketchTold) -> Result<(), Refusal>
-    ensures { OnSketch (Tells told.new) kept.now result kept.now }
+    ensures { OnSketch (told.new ≡ told.old) (Tells told.new) kept.now result kept.now }
 {
     match kept {
         Kept::Sketch(sketch) => {
             *told = told_of(sketch);
             Ok(())
         }
+        Kept::Asking(_) => Err(Refusal::OtherHandle),
     }
 }
 
 fn tell_in(alloc: Global, handle: &mut Handle, told: &mut SketchTold) -> Result<(), Refusal>
-    ensures { Through (told.new ≡ told.old) (OnSketch (Tells told.new)) handle.old.spot.held
+    ensures { ThroughSketch (told.new ≡ told.old) (Tells told.new) handle.old.spot.held
         result handle.new.spot.held }
 {
     let Some(kept) = handle.take(alloc) else {
@@ -364,7 +371,7 @@ fn tell_in(alloc: Global, handle: &mut Handle, told: &mut SketchTold) -> Result<
 /// Tells what a sketch is, but for its secrets.
 #[unsafe(no_mangle)]
 pub extern "C" fn sip_sketch_told(alloc: Global, sketch: &mut Handle, told: &mut SketchTold) -> u32
-    ensures { Answers result (λ answer. Through (told.new ≡ told.old) (OnSketch (Tells told.new))
+    ensures { IsNumberOf result (λ answer. ThroughSketch (told.new ≡ told.old) (Tells told.new)
         sketch.old.spot.held answer sketch.new.spot.held) }
 {
     status_of(tell_in(alloc, sketch, told))
@@ -376,11 +383,13 @@ fn tell_seat_kept(
     kind: &mut u8,
     is_used: &mut bool,
 ) -> Result<(), Refusal>
-    ensures { OnSketch (TellsSeat place kind.old kind.new is_used.old is_used.new) kept.now result
+    ensures { OnSketch ((kind.new ≡ kind.old) × (is_used.new ≡ is_used.old)) (TellsSeat place
+        kind.old kind.new is_used.old is_used.new) kept.now result
         kept.now }
 {
     match kept {
         Kept::Sketch(sketch) => tell_seat(sketch, place, kind, is_used),
+        Kept::Asking(_) => Err(Refusal::OtherHandle),
     }
 }
 
@@ -391,8 +400,8 @@ fn tell_seat_in(
     kind: &mut u8,
     is_used: &mut bool,
 ) -> Result<(), Refusal>
-    ensures { Through ((kind.new ≡ kind.old) × (is_used.new ≡ is_used.old))
-        (OnSketch (TellsSeat place kind.old kind.new is_used.old is_used.new))
+    ensures { ThroughSketch ((kind.new ≡ kind.old) × (is_used.new ≡ is_used.old)) (TellsSeat place
+        kind.old kind.new is_used.old is_used.new)
         handle.old.spot.held result handle.new.spot.held }
 {
     let Some(kept) = handle.take(alloc) else {
@@ -412,9 +421,8 @@ pub extern "C" fn sip_sketch_seat(
     kind: &mut u8,
     is_used: &mut bool,
 ) -> u32
-    ensures { Answers result (λ answer. Through
-        ((kind.new ≡ kind.old) × (is_used.new ≡ is_used.old))
-        (OnSketch (TellsSeat place kind.old kind.new is_used.old is_used.new))
+    ensures { IsNumberOf result (λ answer. ThroughSketch ((kind.new ≡ kind.old) × (is_used.new ≡
+        is_used.old)) (TellsSeat place kind.old kind.new is_used.old is_used.new)
         sketch.old.spot.held answer sketch.new.spot.held) }
 {
     status_of(tell_seat_in(alloc, sketch, place, kind, is_used))

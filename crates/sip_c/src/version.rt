@@ -1,7 +1,7 @@
 //! What the library tells of itself.
 
 ghost use Rattle.std.specs.Prelude.{◌≡◌};
-ghost use Rattle.sip_c.specs.Statuses.{Answers};
+ghost use Rattle.sip_c.specs.Statuses.{IsNumberOf};
 ghost use Rattle.sip_c.specs.Texts.{IsTold, text_of};
 
 use crate::refusal::{Refusal, status_of};
@@ -42,6 +42,18 @@ fn text_of(status: u32) -> &'static str
         33 => "all parts are in the part",
         34 => "a seat of the part is used",
         35 => "the part is not the next one",
+        4 => "the handle has something of another type",
+        6 => "the call is not for this step",
+        40 => "not all parts of the stream are in",
+        41 => "a question does not fit the depth",
+        42 => "a question is for large entries of a side with negatives",
+        43 => "no unused seat serves a question",
+        44 => "an answer may have too many entries",
+        45 => "a moment may be too high",
+        48 => "the replies to a question were rejected",
+        49 => "the other end holds another stream",
+        50 => "a frame came that may not come",
+        51 => "the other end closed before the end",
         _ => "no status",
     }
 }
@@ -64,7 +76,7 @@ fn tell(text: &str, to: &mut [u8], size: &mut usize) -> Result<(), Refusal>
 /// it has; their number alone where there is less room.
 #[unsafe(no_mangle)]
 pub extern "C" fn sip_status_text(status: u32, to: &mut [u8], size: &mut usize) -> u32
-    ensures { Answers result (IsTold (text_of status) to.old to.new size.new) }
+    ensures { IsNumberOf result (IsTold (text_of status) to.old to.new size.new) }
 {
     status_of(tell(text_of(status), to, size))
 }

@@ -1,0 +1,89 @@
+//! The bytes of a question that are due at once, which are few.
+
+ghost use Rattle.std.specs.Prelude.{◌≡◌, ◌≤◌, ◌<◌, ◌+◌, ◌^◌, ◌++◌, [], length, min};
+ghost use Rattle.arrayvec.specs.ArrayVec.{array_vec_len};
+ghost use Rattle.sip_ports.specs.Ports.{Rose, outs};
+
+use arrayvec::ArrayVec;
+use sip_ports::{Link, PortStop, Sink};
+use sip_stream::text::put;
+
+/// How many bytes of a question are due at once at most.
+pub(crate) const MOST_DUE: usize = 64;
+
+/// What goes out, where there is room for it: a write of more fails.
+#[derive(Drop)]
+pub(crate) struct Room {
+    bytes: ArrayVec<u8, MOST_DUE>,
+    faults: u64,
+    ghost fits: { faults < 2 ^ 64 },
+}
+
+impl Room {
+    ghost use Rattle.sip_c.specs.Rooms.{bytes_in};
+
+    /// With nothing in it.
+    pub(crate) fn new() -> Room
+        ensures { bytes_in result ≡ [] }
+    {
+        Room {
+            bytes: ArrayVec::new(),
+            faults: 0,
+        }
+    }
+
+    /// What went out.
+    pub(crate) fn bytes(&self) -> &[u8]
+        ensures same { result.now ≡ bytes_in self.now }
+        ensures most { length result.now ≤ MOST_DUE }
+    {
+        &self.bytes
+    }
+
+    // A call failed.
+    fn failed(&mut self) -> PortStop
+        ensures stop { result ≡ PortStop.Failed }
+        ensures bytes { bytes_in self.new ≡ bytes_in self.old }
+        ensures rose { Rose self.old.faults self.new.faults }
+        ensures later { self.old.faults ≤ self.new.faults }
+    {
+        self.faults = self.faults.saturating_add(1);
+        PortStop::Failed
+    }
+}
+
+impl Sink for Room {
+    ghost use Rattle.std.specs.Prelude.{Some};
+    ghost use Rattle.std.proofs.Common.{rules};
+    ghost use Rattle.sip_ports.specs.Ports.{outs};
+    ghost use Rattle.sip_c.specs.Rooms.{bytes_in};
+
+    ghost talk = { λ r. Some (outs (bytes_in r)) };
+
+    ghost faults = { λ r. r.faults };
+
+    ghost wants = { λ _. 0 };
+
+    ghost is_sure = { λ _. ⊥ };
+
+    ghost faults_fit = { λ r. r.fits };
+
+    ghost wants_fit = { λ _. Prim.search rules };
+
+    ghost sure_counts = { λ _ sure. absurd sure };
+
+    fn write(&mut self, buf: &[u8]) -> Result<usize, PortStop> {
+        if buf.len() > MOST_DUE - self.bytes.len() {
+            return Err(self.failed());
+        }
+        put(&mut self.bytes, buf);
+        Ok(buf.len())
+    }
+}
+
+impl Link for Room {
+    // Nothing comes in.
+    fn recv(&mut self, _buf: &mut [u8]) -> Result<usize, PortStop> {
+        Err(self.failed())
+    }
+}
