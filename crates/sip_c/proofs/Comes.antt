@@ -34,13 +34,11 @@ came_more s mid t us more (inr (few, before)) some then =
     let all = grown_more s mid t us more (inside_of us s mid before) (inside_of more mid t then) in
     inr (omega (arith, few, length-append us more), record { kept = all.kept; told = all.told; used = all.used; stands = all.stands })
 
-all_front : {X : Type 0} (P : X → Type 0) (xs ys : List X) → All P (xs ++ ys) → All P xs
-all_front P xs ys all k d lt =
-    subst P (get_or-append xs ys d k lt) (all k d (omega (arith, lt, length-append xs ys)))
-
-all_behind : {X : Type 0} (P : X → Type 0) (xs ys : List X) → All P (xs ++ ys) → All P ys
-all_behind P [] ys all = all
-all_behind P (x ∷ xs) ys all = all_behind P xs ys (All-tail P x (xs ++ ys) all)
+-- those between others
+all_within : {X : Type 0} (P : X → Type 0) (xs ys zs : List X) → All P (xs ++ (ys ++ zs)) → All P ys
+all_within P [] ys zs all k d lt =
+    subst P (get_or-append ys zs d k lt) (all k d (omega (arith, lt, length-append ys zs)))
+all_within P (x ∷ xs) ys zs all = all_within P xs ys zs (All-tail P x (xs ++ (ys ++ zs)) all)
 
 -- the updates in three pieces
 pieces : (us : List Update) (done count : ℕ) → us ≡ take done us ++ (take count (drop done us) ++ drop count (drop done us))
@@ -76,8 +74,8 @@ next_comes s t codes done count can came =
     let P : Update → Type 0 = λ u. u.item < 2 ^ s.depth in
     let Q : Update → Type 0 = λ u. u.delta ≢ pos 0 in
     record {
-      items = subst (λ (n : ℕ). All (λ (u : Update). u.item < 2 ^ n) here) (sym depth) (all_front P here rest (all_behind P front (here ++ rest) (subst (All P) cut can.items)));
-      deltas = all_front Q here rest (all_behind Q front (here ++ rest) (subst (All Q) cut can.deltas));
+      items = subst (λ (n : ℕ). All (λ (u : Update). u.item < 2 ^ n) here) (sym depth) (all_within P front here rest (subst (All P) cut can.items));
+      deltas = all_within Q front here rest (subst (All Q) cut can.deltas);
       first = omega (arith, told_first s t front came, weighs First, can.first);
       second = omega (arith, told_second s t front came, weighs Second, can.second);
     }
