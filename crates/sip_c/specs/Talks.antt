@@ -28,7 +28,7 @@ Verdict = Option (Result QuestionGiven Unanswered)
 -- numbers the question is judged by.
 pub record IsSettled (a : Talk) : Type 0 where
   pub begun : HasBegun a.asking
-  pub open : is_none a.said ≡ is_open_at a.asking
+  pub unjudged : is_none a.said ≡ is_open_at a.asking
   pub comes : (q : About) (stream : List Update) (events : List TalkEvent) → IsOf q stream
       → IsAskedOf q events a.asking → ComesTo q stream events (pairs_of a.asking) a.said
   pub judged : IfSome a.said (λ said. has_failed said ≡ false)

@@ -203,8 +203,7 @@ fn answer_in(alloc: Global, handle: &mut Handle, answer: &mut AnswerCode) -> Res
     requires begun { IsBegun handle.old.spot.held }
     ensures begun { IsBegun handle.new.spot.held }
     ensures does { ThroughAsking (answer.new ≡ answer.old) (Answers answer.old answer.new)
-        (RunAskingAnswers answer.old answer.new) handle.old.spot.held result handle.new.spot.held
-        }
+        (RunAskingAnswers answer.old answer.new) handle.old.spot.held result handle.new.spot.held }
 {
     let Some(kept) = handle.take(alloc) else {
         return Err(Refusal::Empty);

@@ -7,8 +7,8 @@ ghost use Rattle.sip_c.specs.Owned.{held_owns, held_coded};
 ghost use Rattle.sip_c.specs.declared.refusal.Refusal.TheVariants as refusals;
 
 use crate::kept::Kept;
-use crate::refusal::Refusal;
 use crate::parts::Parts;
+use crate::refusal::Refusal;
 use std::alloc::Global;
 use std::marker::Model;
 use std::{mem, ptr};

@@ -66,13 +66,7 @@ impl Talk {
         ensures { result ≡ talk_wants self.now self.now.said }
     {
         match self.said {
-            None => {
-                if self.asking.is_due() {
-                    1
-                } else {
-                    2
-                }
-            }
+            None => { if self.asking.is_due() { 1 } else { 2 } }
             Some(Ok(_)) => 4,
             Some(Err(_)) => 5,
         }
