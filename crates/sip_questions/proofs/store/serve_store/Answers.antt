@@ -36,4 +36,4 @@ returns-clause-serves g c =
     let is = c.in-Ok-open.ensures.opens in
     let hears = c.in-Ok-hear_store.ensures.hears is.recalls is.refused (c.into_stream-stream.ensures ∙ ap (λ (s : QuestionHelper). s.helper) is.state) is.count in
     let sent = rw c.spoken.ensures at c.in_default-say_held.ensures.talk in
-    rw c.from-2.ensures (answers_then c.args.form (g.A.Source.left c.args.first.now) (g.L.Sink.talk c.args.link.now) _ _ _ c.in-Ok-open.asked is c.hear_store.new.stream c.in-Ok-hear_store.held hears (g.L.Sink.talk c.say_held.new.link) _ c.behind-core.result c.talk_on.result sent c.behind-core.ensures c.talk_on.ensures.serves)
+    rw c.from-2.ensures (answers_then c.args.form (g.A.Source.left c.args.first.now) (g.L.Sink.talk c.args.link.now) _ _ _ c.in-Ok-open.asked is c.hear_store.new.stream c.in-Ok-hear_store.held hears (g.L.Sink.talk c.say_held.new.out) _ c.behind-core.result c.talk_on.result sent c.behind-core.ensures c.talk_on.ensures.serves)
