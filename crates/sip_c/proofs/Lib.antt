@@ -1,5 +1,6 @@
 pub mod AsBox
 pub mod Comes
+pub mod Handed
 pub mod Posed
 pub mod Reasons
 pub mod Recorded

@@ -114,25 +114,26 @@ refusal_for whys.ZeroDelta = refusals.ZeroDelta
 refusal_for (whys.TooHeavy side) = refusals.TooHeavy
 refusal_for _ = refusals.BadLength
 
--- it may not come behind the stream so far, for that
-abbrev pub IsBadNext : Following → UpdateCode → Refusal → Type 0
-IsBadNext f c why = (¬ HasSide c → why ≡ refusals.BadSide)
+-- behind the stream so far and these updates it may not come, for that
+abbrev pub IsBadBehind : Following → List Update → UpdateCode → Refusal → Type 0
+IsBadBehind f before c why = (¬ HasSide c → why ≡ refusals.BadSide)
     × (HasSide c → (p : Plan) (stream : List Update) (events : List TalkEvent)
     → IsFollowed p stream events f → (cause : Why)
-    × (update_fault p.depth stream (update_of c) ≡ Some cause) × (why ≡ refusal_for cause))
+    × (update_fault p.depth (stream ++ before) (update_of c) ≡ Some cause)
+    × (why ≡ refusal_for cause))
 
 -- All of them came, while updates are taken; or the one behind those that came may not come, for
 -- that.
-abbrev pub FeedsTo : List UpdateCode → ℕ → Following → Answer → Type 0
-FeedsTo codes taken g (Ok done) =
+abbrev pub FeedsTo : List UpdateCode → ℕ → Following → Following → Answer → Type 0
+FeedsTo codes taken f g (Ok done) =
     (taken ≤ length codes) × (is_taking g.step ≡ true → taken ≡ length codes)
-FeedsTo codes taken g (Err why) =
-    (taken < length codes) × ((d : UpdateCode) → IsBadNext g (get_or codes taken d) why)
+FeedsTo codes taken f g (Err why) = (taken < length codes)
+    × ((d : UpdateCode) → IsBadBehind f (updates_of (take taken codes)) (get_or codes taken d) why)
 
 -- so many of them came behind the stream so far
 abbrev pub RunFeeds : List UpdateCode → ℕ → Following → Answer → Following → Type 0
 RunFeeds codes taken f answer g = All HasSide (take taken codes)
-    × Hears f (updates_of (take taken codes)) g × FeedsTo codes taken g answer
+    × Hears f (updates_of (take taken codes)) g × FeedsTo codes taken f g answer
 
 -- the same stream, and the same was said
 abbrev pub IsSame : Following → Following → Type 0

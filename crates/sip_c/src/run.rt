@@ -3,7 +3,7 @@
 ghost use Rattle.std.specs.Prelude.{◌≡◌, ◌∷◌, [], IfErr, IfOk, false, get_or, length, true};
 ghost use Rattle.sip_runs.specs.Runs.{HasBegun, is_taking};
 ghost use Rattle.sip_c.specs.Codes.{HasSide, update_of};
-ghost use Rattle.sip_c.specs.Runs.{ComesToRun, Hears, IsBadNext, RunDue, RunEnds, RunFeeds};
+ghost use Rattle.sip_c.specs.Runs.{ComesToRun, Hears, IsBadBehind, RunDue, RunEnds, RunFeeds};
 ghost use Rattle.sip_c.specs.Runs.{StandsAgainstRun, refusal_for, run_wants};
 
 use crate::beginning::{SEED, seed_of};
@@ -118,7 +118,8 @@ fn take(run: &mut Following, code: &UpdateCode) -> Result<bool, Refusal>
     ensures came { IfOk result (λ did. did ≡ true → Hears run.old (update_of code.now ∷ []) run.new) }
     ensures stays { IfOk result (λ did. did ≡ false → Hears run.old [] run.new) }
     ensures full { IfOk result (λ did. did ≡ false → is_taking run.new.step ≡ false) }
-    ensures bad { IfErr result (λ why. Hears run.old [] run.new × IsBadNext run.new code.now why) }
+    ensures bad { IfErr result (λ why. Hears run.old [] run.new
+        × IsBadBehind run.old [] code.now why) }
 {
     if !code.has_side() {
         return Err(Refusal::BadSide);
