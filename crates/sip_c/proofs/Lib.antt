@@ -1,5 +1,6 @@
 pub mod AsBox
 pub mod Comes
+pub mod Followed
 pub mod Handed
 pub mod Posed
 pub mod Reasons
