@@ -11,8 +11,8 @@ from harness.settings import stream_word
 from harness.streams import put
 from harness.talks import Talks, made, parts
 
-# What `verify`, `help` and the commands that keep a sketch may touch, and what README allows to every command.
-ENDS, MOST = 64 * 1024, 96 * 1024
+# What each command may touch, and what `audit` may, which has the readers of a stream and of a transcript.
+MOST, MOST_OF_AUDIT = 64 * 1024, 72 * 1024
 RECORDS = 100_000
 MADE = f"made:7:{RECORDS}"
 
@@ -41,12 +41,12 @@ def measure(programs, settings, work):
         made(programs["sip"], RECORDS, depth)(os.path.join(work, "stream"))
         for label, words, code in alone(depth, work):
             child = run([*programs["sip"], *words], traced=True, wanted=code, quiet=True)
-            table.line(f"{label} {depth}", {"sip": child.stack})
+            table.line(f"{label} {depth}", {"sip": child.stack}, MOST_OF_AUDIT if label == "audit" else MOST)
         for label, words in keeping(depth, work):
             child = run([*programs["sip"], *words], traced=True, quiet=True)
-            table.line(f"{label} {depth}", {"sip": child.stack}, ENDS)
+            table.line(f"{label} {depth}", {"sip": child.stack})
         for count, stack in asking(programs["sip"], depth, work):
-            table.line(f"ask of {count} {depth}", {"sip": stack}, ENDS)
+            table.line(f"ask of {count} {depth}", {"sip": stack})
     for words in (["--version"], ["--help"], ["verify", "--help"]):
         table.line(" ".join(words), {"sip": run([*programs["sip"], *words], traced=True).stack})
     return table.above
@@ -67,10 +67,10 @@ class Stacks:
         if stacks["sip"] > most:
             self.above.append(f"stack: {line} uses {stacks['sip']} bytes, and {most} are allowed")
 
-    def talk(self, talks, label, stacks, most=MOST):
+    def talk(self, talks, label, stacks):
         """The lines of both ends, of the stacks of each program's."""
         for which, end in enumerate((talks.HELPING, talks.ASKING)):
-            self.line(f"{end:8} {talks.depth} {label}", {name: ends[which] for name, ends in stacks.items()}, most)
+            self.line(f"{end:8} {talks.depth} {label}", {name: ends[which] for name, ends in stacks.items()})
 
 
 def see_talks(table, programs, settings, depth, work):
@@ -81,7 +81,7 @@ def see_talks(table, programs, settings, depth, work):
         stacks = {}
         for name, program in programs.items():
             stacks[name] = [child.stack for child in talks.talk(name, program, words, traced=True)]
-        table.talk(talks, label, stacks, ENDS)
+        table.talk(talks, label, stacks)
 
 
 def see_own_talks(table, program, depth, work):

@@ -38,7 +38,7 @@ came_more s mid t us more (inr (few, before)) some then =
 all_within : {X : Type 0} (P : X → Type 0) (xs ys zs : List X) → All P (xs ++ (ys ++ zs)) → All P ys
 all_within P [] ys zs all k d lt =
     subst P (get_or-append ys zs d k lt) (all k d (omega (arith, lt, length-append ys zs)))
-all_within P (x ∷ xs) ys zs all = all_within P xs ys zs (All-tail P x (xs ++ (ys ++ zs)) all)
+all_within P (x ∷ xs) ys zs all k d lt = all_within P xs ys zs (All-tail P x (xs ++ (ys ++ zs)) all) k d lt
 
 -- the updates in three pieces
 pieces : (us : List Update) (done count : ℕ) → us ≡ take done us ++ (take count (drop done us) ++ drop count (drop done us))

@@ -1,13 +1,11 @@
 -- The head of a transcript as a task with its challenges, and the session that begins with it.
-use Rattle.std.proofs.Common.{◌≡◌, ◌≤◌, ◌<◌, ◌*◌, ℕ, List, [], ◌∷◌, get_or, length, refl, sym, ap, subst, ◌∙◌, arith, Option, Some, Ok, Err}
-use Rattle.std.specs.Prelude.{All, IsTrue, map}
+use Rattle.std.proofs.Common.{◌≡◌, ◌≤◌, ◌<◌, ◌*◌, ℕ, List, [], ◌∷◌, get_or, length, refl, sym, ap, subst, ◌∙◌, arith, Option, Some, Result, Ok, Err, inl, inr}
+use Rattle.std.specs.Prelude.{All, IsTrue, MatchResult, map}
 use Rattle.std.specs.List.{flat_map}
 use Rattle.std.proofs.Math.Nat.{mul_comm}
 use Rattle.std.proofs.lemmas.List.{get_or-map, length-map}
 use Rattle.std.proofs.lemmas.Nat.{mul-le}
 use Rattle.std.proofs.lemmas.List.Elements.{All-append, All-head, All-map, All-nil, All-tail, All-weaker}
-use Rattle.sip_field.specs.Elements.{m61_number}
-use Rattle.sip_field.specs.declared.mersenne.M61.{M61}
 use Rattle.sip_ports.specs.declared.port.TalkEvent.{TalkEvent}
 use Rattle.sip_stream.specs.Records.{records}
 use Rattle.sip_stream.proofs.LegalRecords.{records_legal}
@@ -16,17 +14,24 @@ use Rattle.sip_vector.specs.declared.update.Update.{Update}
 use Rattle.sip_wire.specs.declared.version.Version.{Version}
 use Rattle.sip_wire.specs.Table.{is_element, most_queries}
 use Rattle.sip_wire.specs.Versions.{Speaks}
+use Rattle.sip_replies.proofs.Passing.{same_ok}
+use Rattle.sip_verifier.specs.declared.session.SessionStart.{SessionStart}
+use Rattle.sip_verifier.specs.declared.session.SessionStart.TheVariants as starts
 use Rattle.sip_verifier.specs.declared.status.Port.TheVariants as ports
 use Rattle.sip_verifier.specs.declared.status.Status.{Status}
 use Rattle.sip_verifier.specs.declared.status.Status.TheVariants as statuses
 use Rattle.sip_verifier.specs.declared.task.Task.{Task}
-use Rattle.sip_verifier.specs.QuerySeats.{Seated}
+use Rattle.sip_verifier.specs.Concluding.{Reports}
+use Rattle.sip_verifier.specs.QuerySeats.{Seated, StandsFor}
 use Rattle.sip_verifier.specs.Gathering.{AreOf, Breaks, IsPassedOn}
+use Rattle.sip_verifier.specs.inside.Ending.{status_of_start}
+use Rattle.sip_verifier.specs.inside.Opening.{IsOpened, IsUnopened}
 use Rattle.sip_verifier.specs.Snapshots.{counts}
 use Rattle.sip_verifier.specs.Seats.{AreSeats, Seating}
 use Rattle.sip_verifier.specs.Sittings.{Sitting, Starts}
 use Rattle.sip_verifier.specs.Statuses.{FaultClause, stops_following}
 use Rattle.sip_verifier.specs.Widths.{first_wide_seat}
+use Rattle.sip_verifier.proofs.SeatedBehind.{seats_left}
 use Rattle.sip_verifier.proofs.WideSeats.{first_is}
 use Rattle.sip_verifier.specs.Tasks.{CanBeAsked}
 use Rattle.sip_transcript.specs.Auditing.{stops_auditing}
@@ -105,11 +110,11 @@ module _ (version : Version) (task : Task) (challenges bytes : List ℕ) (left :
   not_passed_on first firsts second seconds report reports keep keeps old new _ breaks fault = absurd breaks
 
   -- the seats took it, and there is a session
-  pub begun : (elements : List M61) (seats : Seating) (s : Sitting) (old new : Option (List TalkEvent)) → map m61_number elements ≡ challenges
-      → IsPassedOn task bytes (cut task.depth (map m61_number elements)) left old new seats → Starts version seats (Ok s) → IsBegun version task challenges bytes left s
-  begun elements seats s old new same passed starts = record {
+  pub begun : (seats : Seating) (s : Sitting) (old new : Option (List TalkEvent)) → IsPassedOn task bytes (cut task.depth challenges) left old new seats
+      → Starts version seats (Ok s) → IsBegun version task challenges bytes left s
+  begun seats s old new passed starts = record {
     seats = seats;
-    stand = subst (λ (c : List ℕ). AreSeats task.depth task.queries.items (cut task.depth c) (records task.depth task.form bytes).legal seats) same passed.stand;
+    stand = passed.stand;
     starts = starts;
     legal = passed.to_end;
     read = passed.read;
@@ -120,6 +125,12 @@ module _ (version : Version) (task : Task) (challenges bytes : List ℕ) (left :
       → Begins version task challenges bytes left (Err (statuses.TooWide query))
   wide blocks seats query old new passed is =
       (passed.to_end, sym (first_is task.depth task.queries.items blocks (records task.depth task.form bytes).legal seats passed.stand (records_legal task.depth task.form bytes).items) ∙ is)
+
+  -- or there was no memory for it
+  pub not_begun : (blocks : List (List ℕ)) (seats : Seating) (start : SessionStart) (old new : Option (List TalkEvent)) → IsPassedOn task bytes blocks left old new seats → Starts version seats (Err start)
+      → Begins version task challenges bytes left (Err (status_of_start start))
+  not_begun blocks seats (starts.TooWide query) old new passed is = wide blocks seats query old new passed is
+  not_begun blocks seats starts.OutOfMemory old new passed is = tt
 
 -- what stops a run while its stream is read stops an audit, with the same cause
 pub following_audits : (first firsts second seconds peer peers report reports keep keeps : ℕ) (status : Status) → IsTrue (stops_following status) × FaultClause (counts first second 0 report keep) (counts firsts seconds 0 reports keeps) status
@@ -132,6 +143,36 @@ following_audits first firsts second seconds peer peers report reports keep keep
 following_audits first firsts second seconds peer peers report reports keep keeps statuses.PeerFault stops = absurd (omega (arith, stops.1))
 following_audits first firsts second seconds peer peers report reports keep keeps statuses.OutOfMemory stops = (refl, tt)
 following_audits first firsts second seconds peer peers report reports keep keeps _ stops = absurd (let no = stops.0 in cc)
+
+-- ---- the session
+
+-- seats that were found where they were left stand as they did, and so do they with tables
+pub stand_kept : (task : Task) (challenges : List ℕ) (gathered : Result Seating Status) (found kept : Seating)
+    → (seats : Seating) × (gathered ≡ Ok seats) × AreSeats task.depth task.queries.items (cut task.depth challenges) [] seats
+    → gathered ≡ Ok found → kept ≡ found → AreSeats task.depth task.queries.items (cut task.depth challenges) [] kept
+stand_kept task challenges gathered found kept (seats, was, stand) is same =
+    let found_is : seats ≡ found = same_ok {E = Status} seats found (sym was ∙ is) in
+    subst (AreSeats task.depth task.queries.items (cut task.depth challenges) []) (found_is ∙ sym same) stand
+
+-- it is over the seats that were gathered, or could not be opened over them
+abbrev pub IsUnstarted : Version → Seating → Status → Type 0
+IsUnstarted version seats status = (start : SessionStart) × Starts version seats (Err start) × (status ≡ status_of_start start)
+
+pub over_seats : {X : Type 0} (result : Result X Status) (view : X → Sitting) (version : Version) (gathered : Result Seating Status) (seats : Seating) → gathered ≡ Ok seats
+    → MatchResult result (λ x. IsOpened version gathered (view x)) (λ status. IsUnopened version gathered status)
+    → MatchResult result (λ x. Starts version seats (Ok (view x))) (λ status. IsUnstarted version seats status)
+over_seats (Ok x) view version gathered seats was (other, is, starts) =
+    subst (λ (s : Seating). Starts version s (Ok (view x))) (same_ok {E = Status} other seats (sym is ∙ was)) starts
+over_seats (Err status) view version gathered seats was (inl is) = absurd (let no = sym is ∙ was in cc)
+over_seats (Err status) view version gathered seats was (inr (other, start, is, starts, why)) =
+    (start, subst (λ (s : Seating). Starts version s (Err start)) (same_ok {E = Status} other seats (sym is ∙ was)) starts, why)
+
+-- what is reported behind a session, where its seats stand for a stream
+pub its_lines : (version : Version) (task : Task) (challenges bytes : List ℕ) (left : Option (List ℕ)) (s now : Sitting) (blank full : Option (List TalkEvent)) → IsBegun version task challenges bytes left s → now ≡ s
+    → ((stream : List Update) → All (StandsFor now.depth stream) now.left → Reports blank full) → Reports blank full
+its_lines version task challenges bytes left s now blank full begun same wrote =
+    let stand = seats_left _ _ _ _ begun.seats _ s begun.stand begun.starts in
+    wrote (records task.depth task.form bytes).legal (rw same stand.1)
 
 -- a session has as many queries to ask as its seats
 pub as_many : (task : Task) (stream : List Update) (version : Version) (seats : Seating) (s : Sitting) → AreOf task stream seats → Starts version seats (Ok s) → length s.left ≡ length task.queries.items

@@ -1,12 +1,14 @@
 //! Checking a stored run again: its stream against its transcript.
 
 ghost use Rattle.std.specs.Prelude.{◌≡◌, ◌≤◌, ℕ, List, All, Err, IfOk, IsSome, IsTrue, MatchResult};
-ghost use Rattle.std.specs.Prelude.{Ok, Some, length, map, false};
+ghost use Rattle.std.specs.Prelude.{[], Ok, Some, length, map, false};
 ghost use Rattle.std.specs.declared.option.Option.{Option};
 ghost use Rattle.sip_field.specs.Elements.{m61_number};
 ghost use Rattle.sip_ports.specs.declared.port.TalkEvent.{TalkEvent};
 ghost use Rattle.sip_ports.specs.Ports.{Lasts};
 ghost use Rattle.sip_vector.specs.declared.update.Update.{Update as AnyUpdate};
+ghost use Rattle.sip_vector.specs.Pieces.{cut};
+ghost use Rattle.sip_wire.specs.declared.version.Version.{Version as AnyVersion};
 ghost use Rattle.sip_wire.specs.Table.{is_element, most_queries};
 ghost use Rattle.sip_verifier.specs.Concluding.{Reports};
 ghost use Rattle.sip_verifier.specs.Gathering.{legal};
@@ -14,6 +16,7 @@ ghost use Rattle.sip_verifier.specs.Negatives.{NegativesClause, heavy_negatives}
 ghost use Rattle.sip_verifier.specs.Snapshots.{Counts as AnyCounts, PortState, counts, port};
 ghost use Rattle.sip_verifier.specs.Snapshots.{snapshot};
 ghost use Rattle.sip_verifier.specs.QuerySeats.{StandsFor};
+ghost use Rattle.sip_verifier.specs.Seats.{AreSeats, Seating};
 ghost use Rattle.sip_verifier.specs.Statuses.{FaultClause, Stops, stops_asking};
 ghost use Rattle.sip_transcript.specs.Auditing.{Audit, AuditClause, Audits, EndsAudit};
 ghost use Rattle.sip_transcript.specs.Auditing.{stops_auditing};
@@ -31,12 +34,13 @@ use sip_field::{Field, M61};
 use sip_ports::{NullSink, Sink, Source};
 use sip_stream::Form;
 use sip_vector::Negatives;
-use sip_verifier::{Port, Seats, Session, SessionStart, Status, Task, conclude_session, follow};
+use sip_verifier::{Port, Seats, Session, Status, Task, conclude_session, follow, open_session};
 use sip_wire::Version;
 use std::alloc::Global;
 use std::marker::Brand;
 
-/// Challenges as elements of the field.
+/// Challenges as elements of the field. What they are made in is off the stack behind the call.
+#[inline(never)]
 fn elements(challenges: &[u64]) -> ArrayVec<M61, MOST_CHALLENGES>
     requires most { length challenges.now ≤ 768 }
     requires each { All (λ x. IsTrue (is_element x)) challenges.now }
@@ -47,6 +51,20 @@ fn elements(challenges: &[u64]) -> ArrayVec<M61, MOST_CHALLENGES>
         elements.push(M61::of_number(*challenge));
     }
     elements
+}
+
+// Leaves the seats of a task at these challenges in `gathered`. The copies of them that this takes
+// are off the stack behind the call.
+#[inline(never)]
+fn seat(task: &Task, challenges: &[u64], gathered: &mut Result<Seats, Status>)
+    requires { (version : AnyVersion) × (asks : List Ask)
+        × AreAsked version task.now challenges.now asks }
+    ensures { (seats : Seating) × (gathered.new ≡ Ok seats)
+        × AreSeats task.now.depth task.now.queries.items (cut task.now.depth challenges.now)
+        [] seats }
+{
+    let elements = elements(challenges);
+    *gathered = Ok(Seats::given(task.depth, &task.queries, &elements));
 }
 
 /// The session of a head's queries at their challenges, over the stream of `first`, which is read
@@ -78,18 +96,18 @@ fn begin<A: Source>(
     ensures told { IsSome (A.left first.old) → IsSome (A.left first.new) }
     ensures first { Lasts A.faults A.wants A.is_sure first.old first.new }
 {
-    let elements = elements(challenges);
-    let mut seats = Seats::given(task.depth, &task.queries, &elements);
+    // The seats stay here until the session has them.
+    let mut gathered = Err(Status::SeedSpent);
+    seat(task, challenges, &mut gathered);
+    let Ok(seats) = &mut gathered else {
+        unreachable!()
+    };
     *negatives = Negatives::default();
     // Tables are for speed alone: an audit goes on without those that there is no memory for.
     let _ = seats.keep_tables(alloc);
-    let weights = follow(task, &mut seats, first, &mut NullSink::new())?;
+    let weights = follow(task, seats, first, &mut NullSink::new())?;
     *negatives = seats.heavy_negatives(&weights);
-    match Session::boxed(alloc, version, seats) {
-        Ok(session) => Ok(session),
-        Err(SessionStart::TooWide { query }) => Err(Status::TooWide { query }),
-        Err(SessionStart::OutOfMemory) => Err(Status::OutOfMemory),
-    }
+    open_session(alloc, version, &mut gathered)
 }
 
 /// Asks the queries of a session of the replies of a source that is lent, and answers how the run

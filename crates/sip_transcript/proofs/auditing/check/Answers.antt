@@ -1,15 +1,14 @@
 -- Where each part stopped, the facts of the calls before it are handed to the lemma of that end.
 use Rattle.std.proofs.Common.{◌≡◌, Ok, sym, ◌∙◌, le_refl, rules}
 use Rattle.sip_ports.specs.Ports.{heard}
-use Rattle.sip_stream.specs.Records.{records}
 use Rattle.sip_verifier.specs.declared.task.Task.{Task}
 use Rattle.sip_verifier.proofs.RunTalks.{nothing_reported, some_value}
-use Rattle.sip_verifier.proofs.SeatedBehind.{seats_left}
 use Rattle.sip_transcript.specs.Auditing.{is_verdict, stops_auditing}
 use Rattle.sip_transcript.specs.Replayed.{AreAsked, judged}
 use Rattle.sip_transcript.proofs.Audited.{all_read, ends, its_replay, judged_fault, no_verdict, not_begun, place_of, place_sum, replayed_as, since_earlier, verdict_needs_none, with_verdict}
 use Rattle.sip_verifier.proofs.RunNegatives.{of_gathered}
 use Rattle.sip_transcript.proofs.Credits.{of_head}
+use Rattle.sip_transcript.proofs.Heading.{its_lines}
 use Rattle.sip_transcript.proofs.Tests.{or_second}
 use Rattle.sip_transcript.proofs.auditing.check.Goals as goal
 
@@ -51,9 +50,7 @@ pub returns-in-Ok-judged-clause-wrote : goal.returns-in-Ok-judged-clause-wrote
 returns-in-Ok-judged-clause-wrote g c = λ some.
     let bytes = some_value (g.A.Source.left c.args.first.now) some in
     let lent : c.deref_mut.result.now ≡ c.in-Ok.session.value = search rules in
-    let begun = c.in-Ok.ensures.begins bytes.0 bytes.1 in
-    let left = seats_left _ _ _ _ begun.seats _ c.in-Ok.session.value begun.stand begun.starts in
-    c.replay_lent-ended.ensures.wrote (records c.args.head.depth c.args.form bytes.0).legal (rw lent left.1)
+    its_lines _ _ _ bytes.0 _ c.in-Ok.session.value _ _ _ (c.in-Ok.ensures.begins bytes.0 bytes.1) lent c.replay_lent-ended.ensures.wrote
 
 pub returns-in-Ok-judged-clause-fault : goal.returns-in-Ok-judged-clause-fault
 returns-in-Ok-judged-clause-fault g c = λ peer peers keep keeps.
@@ -80,9 +77,7 @@ pub returns-clause-wrote : goal.returns-clause-wrote
 returns-clause-wrote g c = λ some.
     let bytes = some_value (g.A.Source.left c.args.first.now) some in
     let lent : c.deref_mut.result.now ≡ c.in-Ok.session.value = search rules in
-    let begun = c.in-Ok.ensures.begins bytes.0 bytes.1 in
-    let left = seats_left _ _ _ _ begun.seats _ c.in-Ok.session.value begun.stand begun.starts in
-    c.replay_lent-ended.ensures.wrote (records c.args.head.depth c.args.form bytes.0).legal (rw lent left.1)
+    its_lines _ _ _ bytes.0 _ c.in-Ok.session.value _ _ _ (c.in-Ok.ensures.begins bytes.0 bytes.1) lent c.replay_lent-ended.ensures.wrote
 
 pub returns-clause-fault : goal.returns-clause-fault
 returns-clause-fault g c = λ peer peers keep keeps.
