@@ -16,6 +16,7 @@ from oracle.whole import EVERY
 from oracle.words import ASKS, SKETCHES, Usage, read_words
 
 from .chances import Chances
+from .machines import by_machines, machines_in, machines_path
 from .program import FROM, TO, Program
 
 # Of so many cases, each kind of outcome that is wanted has to come.
@@ -39,8 +40,10 @@ class Group(NamedTuple):
 class Trial:
     """The cases of one group."""
 
-    def __init__(self, name, group, path, settings):
-        self.name, self.group, self.path, self.settings = name, group, path, settings
+    def __init__(self, name, group, paths, settings):
+        self.name, self.group, self.settings = name, group, settings
+        path, self.of_machines = paths
+        self.path = path
         # The commands that the program has. `ask` is one that it need not have.
         self.verbs = [verb for verb in EVERY if verb not in ASKS or has(path, verb)]
         self.seen = Counter()
@@ -86,6 +89,7 @@ class Trial:
 
     def work(self, numbers, folder, says):
         self.program = Program(self.path, folder)
+        self.machines = machines_in(self.of_machines, folder) if self.of_machines else None
         for number in numbers:
             says.send(self.differences(number))
 
@@ -109,7 +113,8 @@ class Trial:
         readable = chance.one_in(2)
         self.program.makes_files(readable)
         hints = advice(case.words, files, outcome, may_be_made, readable)
-        if over_fifos and outcome.to is not None:
+        wanted, over_fifos = outcome, over_fifos and outcome.to is not None
+        if over_fifos:
             ran = self.over_fifos(chance, case, outcome)
         else:
             to = to_of(case.words)
@@ -119,17 +124,19 @@ class Trial:
                 outcome = outcome._replace(to=files.get(to.decode(errors="replace")))
         lost = [name for name in read_by(case.words) if name in ran.changed]
         found = [*compared(outcome, ran), *advised(hints, ran), *self.group.also(case, ran.report)]
+        found += self.by_machines(chance, case, wanted, over_fifos)
         return outcome, found + [f"it changes {name}, which it reads" for name in lost]
 
     def with_files(self, chance, case, files, over_fifos):
         """Compares a run and all files behind it, and what it stored before its end."""
         self.program.makes_files(True)
         made = lambda name: made_beside(case.folders, name)  # noqa: E731
-        outcome = self.group.run(case, files, made, self.verbs)
+        wanted = outcome = self.group.run(case, files, made, self.verbs)
         ran = self.with_link(chance, case, outcome, over_fifos)
         if ran:
             outcome = outcome._replace(left=but_link(outcome.left), to=ran.to if case.helper else outcome.to)
             found = [*compared(outcome, ran), *left_otherwise(outcome.left, ran)]
+            found += self.by_machines(chance, case, wanted, True)
             return outcome, found + [*self.group.also(case, ran.report)]
         stream, sketch = said_names(case.words) if over_fifos and outcome.stored else (None, None)
         if stream in case.files and stream != sketch:
@@ -141,7 +148,29 @@ class Trial:
         # TO is one of the files that are left.
         ran = ran._replace(to=outcome.to)
         found = [*compared(outcome, ran), *left_otherwise(outcome.left, ran)]
+        found += self.by_machines(chance, case, wanted, False)
         return outcome, found + [*seen_by_others(case, files, outcome, ran)]
+
+    def by_machines(self, chance, case, outcome, over_fifos):
+        """What is other than it has to be where the same is done by machines, in pieces."""
+        if not self.machines or case.words[:1] == [b"ask"] and not is_link(case):
+            return []
+        asked = by_machines(chance, case, outcome)
+        if not asked:
+            return []
+        case, outcome = asked
+        if over_fifos:
+            ran = self.machines.talk(case, outcome.turns, cuts_of(chance, case))
+            outcome = outcome._replace(left=outcome.left and but_link(outcome.left))
+        else:
+            files = case.files if case.data is None else {**case.files, FROM: case.data}
+            ran = self.machines.run(case.words, files, to_of(case.words[1:]), case=case)
+        if outcome.left is None:
+            return [f"by machines: {line}" for line in compared(outcome, ran)]
+        # TO is one of the files that are left.
+        ran = ran if over_fifos else ran._replace(to=outcome.to)
+        found = [*compared(outcome, ran), *left_otherwise(outcome.left, ran)]
+        return [f"by machines: {line}" for line in found]
 
     def with_link(self, chance, case, outcome, over_fifos):
         """A run whose link is two FIFOs, if that is how it goes."""
@@ -152,20 +181,25 @@ class Trial:
         return None
 
     def over_fifos(self, chance, case, outcome):
-        size = len(case.data)
-        cuts = sorted(chance.randint(0, size) for _ in range(chance.choice((0, 1, 3, 20))))
-        return self.program.talk(case, outcome.turns, cuts)
+        return self.program.talk(case, outcome.turns, cuts_of(chance, case))
+
+
+def cuts_of(chance, case):
+    """Where the bytes that come are cut."""
+    size = len(case.data)
+    return sorted(chance.randint(0, size) for _ in range(chance.choice((0, 1, 3, 20))))
 
 
 def tried(groups, settings):
     """Tries the groups that are asked for. 1 where something differs."""
     wrong, path = 0, os.path.abspath(proved("sip", ["--version"]))
+    paths = path, machines_path()
     for name in settings.groups:
         missing = [verb for verb in groups[name].verbs if not has(path, verb)]
         if missing:
             print(f"{name}: skipped, {path} has no {' and no '.join(missing)}", flush=True)
             continue
-        trial = Trial(name, groups[name], path, settings)
+        trial = Trial(name, groups[name], paths, settings)
         trial.tries()
         wrong += trial.wrong
     if wrong:

@@ -35,8 +35,8 @@ AreRecords width bytes = length bytes % record_size width ≡ 0
 abbrev pub width_of : ℕ → Option ℕ
 width_of form = if form == 1 then Some 4 else if form == 2 then Some 8 else None
 
--- Of why they are no records of a form the first holds: that there is no such form, or that they are
--- not whole. Of what records of the form say the second holds.
+-- Of why they are no records of a form the first holds: that there is no such form, or that they
+-- are not whole. Of what records of the form say the second holds.
 abbrev pub ByRecords : ℕ → List ℕ → (Refusal → Type 0) → (List UpdateCode → Type 0) → Type 0
 ByRecords form bytes Q P = MatchOption (width_of form) (Q refusals.BadCode)
     (λ width. (Q refusals.BadLength × ¬ AreRecords width bytes)

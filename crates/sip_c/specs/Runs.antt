@@ -66,8 +66,8 @@ StandsAgainstRun w told told' refusals.SeedSpent =
 StandsAgainstRun w told told' refusals.NoMemory = HasRunLengths w × (told' ≡ told)
 StandsAgainstRun w told told' _ = ⊥
 
--- A full handle stays as it was, which is an answer. In an empty one the run begins, before anything
--- was said; or it stays empty for that.
+-- A full handle stays as it was, which is an answer. In an empty one the run begins, before
+-- anything was said; or it stays empty for that.
 abbrev pub BeginsRun : WantedRun → Ending → Ending → Option Kept → Answer → Option Kept → Type 0
 BeginsRun w told told' (Some old) answer new =
     (answer ≡ Err refusals.Full) × (new ≡ Some old) × (told' ≡ told)
@@ -146,9 +146,9 @@ RunEnds f (Ok done) g = (is_taking f.step ≡ true) × (is_due g.step ≡ true) 
 RunEnds f (Err refusals.NotNow) g = (is_taking f.step ≡ false) × (g ≡ f)
 RunEnds f _ g = ⊥
 
--- The updates that records of a form say come to the run that a handle has, as those of an array do.
--- Where there is no such form, or the bytes are no whole records, the handle stays as it was, which
--- is an answer.
+-- The updates that records of a form say come to the run that a handle has, as those of an array
+-- do. Where there is no such form, or the bytes are no whole records, the handle stays as it was,
+-- which is an answer.
 abbrev pub RunFeedsBy : ℕ → List ℕ → ℕ → ℕ → Option Kept → Answer → Option Kept → Type 0
 RunFeedsBy form bytes taken taken' old answer new = ByRecords form bytes
     (λ why. (answer ≡ Err why) × (new ≡ old) × (taken' ≡ taken))

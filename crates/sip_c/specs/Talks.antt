@@ -1,5 +1,6 @@
 -- The talk of one question of a run: what calls do to it.
-use Rattle.std.specs.Prelude.{◌≡◌, ℕ, ◌≤◌, ◌+◌, min, List, ◌++◌, length, take, true, false, Option, Some}
+use Rattle.std.specs.Prelude.{◌≡◌, ℕ, ◌≤◌, ◌+◌, min, List, ◌++◌, length, take, true, false}
+use Rattle.std.specs.Prelude.{Option, Some}
 use Rattle.std.specs.Prelude.{None, Result, Ok, Err, IfSome, is_none, if◌then◌else◌}
 use Rattle.sip_ports.specs.Ports.{ins, outs}
 use Rattle.sip_ports.specs.declared.port.TalkEvent.{TalkEvent}

@@ -115,7 +115,8 @@ fn take(run: &mut Following, code: &UpdateCode) -> Result<bool, Refusal>
     requires begun { HasBegun run.old }
     ensures begun { HasBegun run.new }
     ensures side { IfOk result (λ _. HasSide code.now) }
-    ensures came { IfOk result (λ did. did ≡ true → Hears run.old (update_of code.now ∷ []) run.new) }
+    ensures came { IfOk result (λ did. did ≡ true
+        → Hears run.old (update_of code.now ∷ []) run.new) }
     ensures stays { IfOk result (λ did. did ≡ false → Hears run.old [] run.new) }
     ensures full { IfOk result (λ did. did ≡ false → is_taking run.new.step ≡ false) }
     ensures bad { IfErr result (λ why. Hears run.old [] run.new

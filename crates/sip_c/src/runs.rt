@@ -4,7 +4,8 @@ ghost use Rattle.std.specs.Prelude.{◌≡◌, None, Some, true};
 ghost use Rattle.sip_runs.specs.Runs.{HasBegun, is_ended};
 ghost use Rattle.sip_c.specs.Handles.{IsBegun, OnRun, ThroughRun};
 ghost use Rattle.sip_c.specs.RunAsking.{AsksBehind, AsksIn, refusal_by, told_by};
-ghost use Rattle.sip_c.specs.Runs.{BeginsRun, RunDue, RunEnds, RunFeeds, RunFeedsBy, RunWanted, WantedRun};
+ghost use Rattle.sip_c.specs.Runs.{BeginsRun, RunDue, RunEnds, RunFeeds, RunFeedsBy, RunWanted};
+ghost use Rattle.sip_c.specs.Runs.{WantedRun};
 ghost use Rattle.sip_c.specs.Statuses.{IsNumberOf};
 ghost use Rattle.sip_c.specs.inside.Sending.{IsSent};
 

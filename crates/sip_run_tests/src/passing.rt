@@ -2,6 +2,7 @@
 ghost use Rattle.std.specs.Prelude.{IfOk};
 ghost use Rattle.sip_runs.specs.Runs.{HasBegun};
 
+use crate::whole_run::ended;
 use sip_field::{Field, M61};
 use sip_ports::MemorySink;
 use sip_questions::Question;
@@ -48,13 +49,5 @@ pub(crate) fn followed(
     for piece in pieces {
         pass(&mut following, piece, out)?;
     }
-    if !following.is_taking() {
-        return Ok(None);
-    }
-    following.end();
-    following.due(out)?;
-    if !following.is_ended() {
-        return Ok(None);
-    }
-    Ok(Some(following.into_questions()?))
+    ended(following, out)
 }

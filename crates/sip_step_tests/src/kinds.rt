@@ -5,17 +5,16 @@ ghost use Rattle.sip_verifier.specs.QuerySeats.{keeps};
 ghost use Rattle.sip_verifier.specs.Running.{block_of, numbers_of};
 ghost use Rattle.sip_steps.specs.Questioned.{HasBegun};
 
+use crate::ends::said_of;
 use sip_check_tests::events::sent_in;
 use sip_field::{Field, M61, Seat};
-use sip_lookup::write_look;
 use sip_mle::Point;
-use sip_moments::write_moment;
-use sip_ports::{MemoryLink, MemorySink, PortStop};
-use sip_questions::{Question, QuestionGiven};
+use sip_ports::{MemoryLink, PortStop};
+use sip_questions::Question;
 use sip_steps::QuestionAsking;
 use sip_tree::{AugRoot, Root};
-use sip_vector::{CAP, Depth, Entry, Query};
-use sip_verifier::{Running, Unanswered, write_number, write_pairs};
+use sip_vector::{CAP, Depth, Query};
+use sip_verifier::{Running, Unanswered};
 use sip_wire::Version;
 use std::alloc::Global;
 use std::test::Fail;
@@ -80,30 +79,6 @@ pub(crate) struct Outcome {
     pub(crate) line: Option<Result<Vec<u8>, Unanswered>>,
     pub(crate) taken: usize,
     pub(crate) sent: Vec<u8>,
-}
-
-// The line of an answer, of which these pairs are shown.
-fn line_of(alloc: Global, given: &QuestionGiven, pairs: &[Entry]) -> Result<Vec<u8>, Fail> {
-    let mut report = MemorySink::new(alloc, 100, Vec::new(alloc));
-    match given {
-        QuestionGiven::Number { query, value } => write_number(&mut report, query, *value)?,
-        QuestionGiven::Pairs { query } => write_pairs(&mut report, query, pairs)?,
-        QuestionGiven::Lookup { lookup, answer } => write_look(&mut report, *lookup, *answer)?,
-        QuestionGiven::Moment { moment, value } => write_moment(&mut report, *moment, *value)?,
-    }
-    Ok(report.bytes().to_vec(alloc)?)
-}
-
-// The line of what is said of a question, once something is.
-pub(crate) fn said_of(
-    alloc: Global,
-    asking: &QuestionAsking,
-) -> Result<Option<Result<Vec<u8>, Unanswered>>, Fail> {
-    match asking.verdict() {
-        None => Ok(None),
-        Some(Err(why)) => Ok(Some(Err(why))),
-        Some(Ok(given)) => Ok(Some(Ok(line_of(alloc, &given, asking.pairs())?))),
-    }
 }
 
 // Asks a question of an other end that says these pieces, and then closes or not.

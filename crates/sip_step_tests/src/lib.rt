@@ -1,5 +1,6 @@
 //! Both ends of a talk without a link, over worked rows, in pieces of many sizes. Nothing but tests
-//! stands here, so that this layer is proved once.
+//! stands here, so that this layer is proved once, and what the tests of whole runs take from here:
+//! `ends`.
 #![tactic(auto)]
 
 #[cfg(test)]
@@ -8,6 +9,7 @@ mod asking;
 mod asking_tests;
 #[cfg(test)]
 mod both_ends_tests;
+pub mod ends;
 #[cfg(test)]
 mod facts;
 #[cfg(test)]

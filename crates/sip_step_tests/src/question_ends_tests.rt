@@ -1,51 +1,16 @@
 // Questions of every kind and a helper of questions that pass each other their bytes.
-ghost use Rattle.std.specs.Prelude.{not};
-ghost use Rattle.sip_questions.specs.Serving.{question_rules};
-ghost use Rattle.sip_questions.specs.inside.Keeping.{questions_left};
-ghost use Rattle.sip_steps.specs.Questioned.{HasBegun as HasBegunQuestion};
-ghost use Rattle.sip_steps.specs.Served.{HasBegun};
-
+use crate::ends::{exchange, said_of};
 use crate::facts::expect;
-use crate::kinds::{begun, said_of};
-use sip_check_tests::events::sent_in;
+use crate::kinds::begun;
 use sip_check_tests::frames::{BYE, STREAM};
-use sip_check_tests::sizes::{Sizes, piece_of};
+use sip_check_tests::sizes::Sizes;
 use sip_helper::HelpStatus;
-use sip_ports::{MemoryLink, MemorySink};
+use sip_ports::MemorySink;
 use sip_question_tests::kinds::{KINDS, wanted};
 use sip_questions::QuestionCore;
-use sip_steps::{QuestionAsking, Serving};
+use sip_steps::Serving;
 use std::alloc::Global;
 use std::test::Fail;
-
-// Passes the bytes of one question and of the helper to each other, for a number of turns that is
-// enough for any question here.
-fn exchange(
-    alloc: Global,
-    asking: &mut QuestionAsking,
-    serving: &mut Serving<QuestionCore>,
-    sizes: &mut Sizes,
-) -> Result<(), Fail>
-    requires asking { HasBegunQuestion asking.old }
-    requires serving { HasBegun question_rules questions_left (λ s. not s.helper.spent)
-        serving.old }
-    ensures serving { HasBegun question_rules questions_left (λ s. not s.helper.spent)
-        serving.new }
-{
-    let mut link = MemoryLink::new(alloc, Vec::new(alloc), 100, Vec::new(alloc));
-    let mut replies = MemorySink::new(alloc, 100, Vec::new(alloc));
-    let mut passed = 0usize;
-    let mut heard = 0usize;
-    for _turn in 0..200 {
-        asking.due(&mut link)?;
-        let said = sent_in(alloc, link.talk())?;
-        let count = serving.feed(piece_of(&said, passed, sizes.next()), &mut replies);
-        passed = passed.saturating_add(count);
-        let count = asking.feed(piece_of(replies.bytes(), heard, sizes.next()));
-        heard = heard.saturating_add(count);
-    }
-    Ok(())
-}
 
 // The lines of all answers in one talk, and how it ended.
 fn talked(alloc: Global, sizes: &mut Sizes) -> Result<(Vec<u8>, Option<HelpStatus>), Fail> {

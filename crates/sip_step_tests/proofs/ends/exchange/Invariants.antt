@@ -4,7 +4,7 @@ use Rattle.sip_questions.specs.Serving.{question_rules}
 use Rattle.sip_questions.specs.inside.Keeping.{questions_left}
 use Rattle.sip_steps.specs.Questioned.{HasBegun as HasBegunQuestion}
 use Rattle.sip_steps.specs.Served.{HasBegun}
-use Rattle.sip_step_tests.proofs.question_ends_tests.exchange.Given as goal
+use Rattle.sip_step_tests.proofs.ends.exchange.Given as goal
 
 abbrev pub invariant-loop-turn : goal.invariant-loop-turn
 invariant-loop-turn l = record {
