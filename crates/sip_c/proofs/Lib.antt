@@ -1,7 +1,10 @@
 pub mod AsBox
+pub mod ByForm
 pub mod Comes
 pub mod Followed
+pub mod Going
 pub mod Handed
+pub mod Numbered
 pub mod Posed
 pub mod Reasons
 pub mod Recorded

@@ -70,10 +70,10 @@ refusal_by (statuses.TooWide query) = refusals.TooWide
 refusal_by (statuses.TooHigh query) = refusals.TooHigh
 refusal_by _ = refusals.NoMemory
 
-abbrev pub told_by : Status → Ending
-told_by (statuses.TooWide query) = told_about query
-told_by (statuses.TooHigh query) = told_about query
-told_by _ = plain
+abbrev pub told_by : Status → Ending → Ending
+told_by (statuses.TooWide query) told = told_about query
+told_by (statuses.TooHigh query) told = told_about query
+told_by _ told = told
 
 -- The questions are asked in order, each by the numbers of the stream; or there is no memory for
 -- that; or the first stands against it for which a helper may have no room.
@@ -85,7 +85,7 @@ AsksBehind f told told' (Ok done) (Some (kept.RunAsking a)) = (told' ≡ told)
 AsksBehind f told told' (Ok done) _ = ⊥
 AsksBehind f told told' (Err refusals.NoMemory) new = (new ≡ None) × (told' ≡ told)
 AsksBehind f told told' (Err why) new = (new ≡ None) × ((status : Status)
-    × (why ≡ refusal_by status) × (told' ≡ told_by status)
+    × (why ≡ refusal_by status) × (told' ≡ told_by status told)
     × ((p : Plan) (stream : List Update) (events : List TalkEvent) → IsFollowed p stream events f
     → first_refusal stream 1 p.questions ≡ Some status))
 

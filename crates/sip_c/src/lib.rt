@@ -17,9 +17,9 @@
 //!   what was handed out, taken and stored so far is what an ask did ([`askings`], [`answering`]).
 //!   That a handle has what these calls made is a condition of them, which each of them leaves.
 //! - A run sends its stream and takes its updates as [`sip_runs`] says ([`runs`]). Its questions
-//!   are asked by the same calls as those of a sketch: of each question the bytes that were handed out
-//!   and taken are a talk as whoever asks over a link has it, and what is told of it is what comes
-//!   of that talk.
+//!   are asked by the same calls as those of a sketch: of each the bytes that were handed out and
+//!   taken are a talk as whoever asks over a link has it, and what is told of it is what comes of
+//!   that talk.
 //! - An empty handle, a freed one and one that is freed twice are statuses, and nothing is freed
 //!   twice. A handle may go from thread to thread.
 //!

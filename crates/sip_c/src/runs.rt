@@ -10,7 +10,7 @@ ghost use Rattle.sip_c.specs.Statuses.{IsNumberOf};
 ghost use Rattle.sip_c.specs.inside.Sending.{IsSent};
 
 use crate::codes::{CodeList, Codes, UpdateCode};
-use crate::ending::{Ending, about, plain};
+use crate::ending::{Ending, about};
 use crate::handle::Handle;
 use crate::kept::Kept;
 use crate::questions::QuestionCode;
@@ -302,13 +302,13 @@ fn refusal_of(status: Status) -> Refusal
     }
 }
 
-// What is told of such a status.
-fn told_of(status: Status) -> Ending
-    ensures { result ≡ told_by status }
+// Tells the question that is meant.
+fn tell(status: Status, told: &mut Ending)
+    ensures { told.new ≡ told_by status told.old }
 {
     match status {
-        Status::TooWide { query } | Status::TooHigh { query } => about(query),
-        _ => plain(),
+        Status::TooWide { query } | Status::TooHigh { query } => *told = about(query),
+        _ => {}
     }
 }
 
@@ -331,7 +331,7 @@ fn ask_behind(
             handle.begin(alloc, Kept::RunAsking(asking))
         }
         Err(status) => {
-            *told = told_of(status);
+            tell(status, told);
             Err(refusal_of(status))
         }
     }
