@@ -73,6 +73,7 @@ static long refused_runs(void) {
     all = requests;
     for (long i = 0; i <= all; i++) {
         sip_status status;
+        uint8_t wants;
         sip_asking_free(&asking);
         sip_run_free(&run);
         requests = 0;
@@ -81,7 +82,8 @@ static long refused_runs(void) {
         refused = -1;
         if (status != SIP_OK) same("status", status, SIP_NO_MEMORY);
         /* What could not be asked is gone, and what was not begun is not there. */
-        if (status != SIP_OK) same("run", run.full || asking.full, 0);
+        if (status != SIP_OK) same("run", sip_run_wants(&run, &wants), SIP_EMPTY);
+        if (status != SIP_OK) same("asking", sip_asking_wants(&asking, &wants), SIP_EMPTY);
     }
     sip_asking_free(&asking);
     sip_run_free(&run);
