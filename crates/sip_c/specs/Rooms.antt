@@ -3,7 +3,7 @@ use Rattle.std.specs.Prelude.{◌≡◌, ℕ, List, ◌++◌, drop, length}
 use Rattle.sip_c.specs.declared.room.Room.{Room}
 
 -- what went out
-abbrev pub bytes_in : Room → List ℕ
+abbrev pub bytes_in : {n : ℕ} → Room n → List ℕ
 bytes_in r = r.bytes.items
 
 -- these bytes are in front of a buffer, and so many
