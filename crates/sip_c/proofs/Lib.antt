@@ -9,4 +9,5 @@ pub mod Posed
 pub mod Reasons
 pub mod Recorded
 pub mod Somes
+pub mod Turned
 pub mod Weighed
