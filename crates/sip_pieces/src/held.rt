@@ -30,7 +30,9 @@ impl Held {
             return Ok(false);
         }
         let most = size.min(MOST);
-        let came = link.recv(&mut self.buffer[..most])?;
+        let mut buffer = self.buffer;
+        let came = link.recv(&mut buffer[..most])?;
+        self.buffer = buffer;
         self.from = 0;
         self.upto = came.min(MOST);
         Ok(came == 0)

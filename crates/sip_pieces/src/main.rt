@@ -118,7 +118,7 @@ fn done(rt: &HostRuntime, words: &Words, sizes: &mut Sizes) -> io::Result<Status
     let plan = ports(words, &command);
     let mut link = link(rt, words, plan.from, plan.to);
     let alloc = rt.alloc();
-    match command {
+    match &command {
         Command::Help => return Ok(help(alloc, HelperCore::new(alloc), &mut link, sizes)),
         Command::HelpLook | Command::HelpMoments => {
             return Ok(help(alloc, QuestionCore::new(alloc), &mut link, sizes));
@@ -128,17 +128,17 @@ fn done(rt: &HostRuntime, words: &Words, sizes: &mut Sizes) -> io::Result<Status
     let Some(asked) = asked_by(rt, &command)? else {
         return Ok(Status::Usage { word: 0 });
     };
-    match plan.first {
+    match &plan.first {
         Opening::Made {
             number,
             count,
             depth,
         } => {
-            let mut first = MadeSource::new(number, count, depth);
+            let mut first = MadeSource::new(*number, *count, *depth);
             Ok(verify(rt, words, &plan, &asked, &mut first, &mut link, sizes))
         }
-        opening => {
-            let mut first = FileSource::new(opened(rt, words, opening));
+        Opening::Nothing | Opening::Standard | Opening::Spared | Opening::Path { .. } => {
+            let mut first = FileSource::new(opened(rt, words, plan.first));
             Ok(verify(rt, words, &plan, &asked, &mut first, &mut link, sizes))
         }
     }
