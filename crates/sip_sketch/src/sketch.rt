@@ -38,7 +38,7 @@ impl Model for Sketch {
 
 impl Sketch {
     /// Each sketch is one that a file can have. This does nothing: its contract is the fact.
-    pub(crate) fn has_a_file(&self)
+    pub fn has_a_file(&self)
         ensures { IsSketch self.now }
     {
         let _levels = self.depth;
