@@ -28,13 +28,30 @@ table_room filled level count low =
     omega (arith, most, count)
 
 -- the levels of such a table: all that there are where these are fewer than eight, and else eight
-pub first_eight : (rs : List ℕ) (level : ℕ) → (length rs < 8 × (level ≡ length rs)) ⊎ (8 ≤ length rs × (level ≡ 8))
-    → (take level rs ≡ take 8 rs) × (level ≡ length (take 8 rs))
-first_eight rs level (inl few) =
-    let whole : take 8 rs ≡ rs = take_all 8 rs (omega (arith, few.0)) in
-    (take_all level rs (omega (arith, few.1)) ∙ sym whole, few.1 ∙ ap length (sym whole))
-first_eight rs level (inr many) =
-    (ap (λ k. take k rs) many.1, many.1 ∙ sym (length-take-le 8 rs (omega (arith, many.0))))
+pub length_eight : (rs : List ℕ) → (length rs < 8 × (take 8 rs ≡ rs)) ⊎ (8 ≤ length rs × (length (take 8 rs) ≡ 8))
+length_eight rs =
+    elim (cases_lt (length rs) 8) [
+      | inl few ↦ inl (few, take_all 8 rs (omega (arith, few)))
+      | inr many ↦ inr (omega (arith, many), length-take-le 8 rs (omega (arith, many)))
+    ]
+
+pub within_eight : (rs : List ℕ) (level : ℕ) → level < length (take 8 rs) → (level < 8) × (level < length rs)
+within_eight rs level low =
+    elim (length_eight rs) [
+      | inl few ↦
+          let same : length (take 8 rs) ≡ length rs = ap length few.1 in
+          (omega (arith, low, few.0, same), omega (arith, low, same))
+      | inr many ↦ (omega (arith, low, many.1), omega (arith, low, many.0, many.1))
+    ]
+
+pub all_eight : (rs : List ℕ) (level : ℕ) → level ≡ length (take 8 rs) → take level rs ≡ take 8 rs
+all_eight rs level is =
+    elim (length_eight rs) [
+      | inl few ↦
+          let same : length (take 8 rs) ≡ length rs = ap length few.1 in
+          take_all level rs (omega (arith, is, same)) ∙ sym few.1
+      | inr many ↦ ap (λ k. take k rs) (is ∙ many.1)
+    ]
 
 -- what entry e is to be, once so many levels are taken
 module _ {T : Type 0} (none : T) (Is : ℕ → ℕ → T → Type 0) where

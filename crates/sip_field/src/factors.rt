@@ -35,8 +35,7 @@ pub(crate) fn products<F: Field, const CAP: usize>(
 {
     table[0] = 8;
     let mut filled = 1;
-    let left = seat.depth() - from;
-    let levels = if left < 8 { left } else { 8 };
+    let levels = seat.levels_above(from);
     for level in 0..levels {
         let challenge = seat.at(from + level + 1);
         for entry in 0..filled {

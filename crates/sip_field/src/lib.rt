@@ -62,7 +62,7 @@
 //! | `draw_one` | 0 | one word, and another for each that gives no challenge, eight at most |
 //! | `draw_next`, `draw_challenges` of n | 0 | n times `draw_one` |
 //! | `Seat::of` of n challenges | 0 | n copies |
-//! | `Seat::depth`, `Seat::at` | 0 | |
+//! | `Seat::depth`, `Seat::at`, `Seat::levels_above` | 0 | |
 //! | `fill_tables` | 255 for each eight challenges | as many `minus` for `Factors::Extension` |
 //! | `by_tables`, `loosely_by_tables` of n tables | n | n look-ups |
 #![tactic(auto)]

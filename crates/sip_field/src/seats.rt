@@ -1,6 +1,6 @@
 //! The challenges of one query.
 ghost use Rattle.std.specs.Prelude.{◌≡◌, ◌+◌, ◌-◌, ◌<◌, ◌≤◌, ◌↔◌, length, map, IsSome, IfSome};
-ghost use Rattle.std.specs.Prelude.{slice_index, min};
+ghost use Rattle.std.specs.Prelude.{drop, slice_index, take, min};
 
 use crate::arithmetic::Field;
 use arrayvec::ArrayVec;
@@ -64,6 +64,14 @@ impl<F: Field, const CAP: usize> Seat<F, CAP> {
         ensures { F.number result ≡ slice_index self.now (level - 1) }
     {
         F::of_number(self.challenges[level - 1])
+    }
+
+    /// How many levels above this one a table is made for: all that there are, and at most eight.
+    pub fn levels_above(&self, level: usize) -> usize
+        requires { level ≤ length self.now }
+        ensures { result ≡ length (take 8 (drop level self.now)) }
+    {
+        (self.depth() - level).min(8)
     }
 }
 

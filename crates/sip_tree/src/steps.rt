@@ -38,8 +38,7 @@ pub(crate) fn level_steps<F: Field, const CAP: usize>(
         shift: start,
     };
     let mut filled = 1;
-    let left = seat.depth() - from;
-    let levels = if left < 8 { left } else { 8 };
+    let levels = seat.levels_above(from);
     for level in 0..levels {
         let challenge = seat.at(from + level + 1);
         let square = challenge.times(challenge);

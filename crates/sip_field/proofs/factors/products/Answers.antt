@@ -3,10 +3,10 @@ use Rattle.std.proofs.Math.Nat.{pow-suc, mod-eq_of_lt}
 use Rattle.std.proofs.lemmas.List.{length-set, length-drop, get_or-drop, get_or-set_same}
 use Rattle.sip_field.specs.Residue.{product_mod, difference_mod}
 use Rattle.sip_field.specs.Products.{zero_factor, bits_product}
-use Rattle.sip_field.proofs.Doubling.{begins, ends, first_eight, one_pair, table_room}
+use Rattle.sip_field.proofs.Doubling.{all_eight, begins, ends, one_pair, table_room, within_eight}
 use Rattle.sip_field.proofs.BitProducts.{zero_more, one_more, less_product, product_below}
 use Rattle.sip_field.proofs.factors.products.Goals as goal
-use Rattle.sip_field.proofs.factors.products.Goals.{then-left-lt8, else-left-lt8, in-Tree, in-Extension}
+use Rattle.sip_field.proofs.factors.products.Goals.{in-Tree, in-Extension}
 
 pub loop-level-init : goal.loop-level-init
 loop-level-init g c = record {
@@ -23,12 +23,9 @@ loop-entry-init g c = record {
 
 pub bounds-table-filled : goal.bounds-table-filled
 bounds-table-filled g c =
-    let eight : c.loop-level.level < 8 =
-    elim c.if-left-lt8.branch [
-      | then-left-lt8 w ↦ omega (arith, w.levels-is, w.if-left-lt8.true, c.loop-level-test.true)
-      | else-left-lt8 w ↦ omega (arith, w.levels-is, c.loop-level-test.true)
-    ] in
-    omega (arith, table_room _ _ c.loop-level.invariant.count eight, c.loop-entry-test.true)
+    let above : List ℕ = drop c.args.from c.args.seat.now in
+    let inside = within_eight above c.loop-level.level (omega (arith, c.levels.ensures, c.loop-level-test.true)) in
+    omega (arith, table_room _ _ c.loop-level.invariant.count inside.0, c.loop-entry-test.true)
 
 pub of_number-requires : goal.of_number-requires
 of_number-requires g c =
@@ -50,18 +47,7 @@ loop-entry-preserved g c =
     let rs : List ℕ = drop c.args.from seat in
     let above : 1 < p = omega (arith, g.met.F.Field.at_least) in
     let some : 0 < p = omega (arith, above) in
-    let long : length rs ≡ c.depth.result - c.args.from = length-drop c.args.from seat ∙ ap (λ n. n - c.args.from) (sym c.depth.ensures.exact) in
-    let inside : (level < 8) × (level < length rs) =
-    elim c.if-left-lt8.branch [
-      | then-left-lt8 w ↦ (
-        omega (arith, w.levels-is, w.if-left-lt8.true, c.loop-level-test.true),
-        omega (arith, w.levels-is, w.if-left-lt8.true, c.loop-level-test.true, long),
-      )
-      | else-left-lt8 w ↦ (
-        omega (arith, w.levels-is, c.loop-level-test.true),
-        omega (arith, w.levels-is, w.if-left-lt8.false, c.loop-level-test.true, long),
-      )
-    ] in
+    let inside = within_eight rs level (omega (arith, c.levels.ensures, c.loop-level-test.true)) in
     let within : filled + i < length table =
     omega (arith, c.loop-entry.invariant.long, table_room _ _ c.loop-level.invariant.count inside.0, c.loop-entry-test.true) in
     let low : i < 2 ^ level = omega (arith, c.loop-level.invariant.count, c.loop-entry-test.true) in
@@ -114,13 +100,7 @@ returns g c e inside =
     let p : ℕ = g.F.Field.MODULUS in
     let rs : List ℕ = drop c.args.from c.args.seat.now in
     let level : ℕ = c.loop-level.level in
-    let long : length rs ≡ c.depth.result - c.args.from =
-    length-drop c.args.from c.args.seat.now ∙ ap (λ n. n - c.args.from) (sym c.depth.ensures.exact) in
-    let all : (take level rs ≡ take 8 rs) × (level ≡ length (take 8 rs)) =
-    first_eight rs level (elim c.if-left-lt8.branch [
-      | then-left-lt8 w ↦ inl (omega (arith, long, w.if-left-lt8.true), omega (arith, long, w.levels-is, c.loop-level-test.false, c.loop-level.auto.level-end))
-      | else-left-lt8 w ↦ inr (omega (arith, long, w.if-left-lt8.false), omega (arith, w.levels-is, c.loop-level-test.false, c.loop-level.auto.level-end))
-    ]) in
-    let count : c.loop-level.filled ≡ 2 ^ length (take 8 rs) = c.loop-level.invariant.count ∙ ap (λ k. 2 ^ k) all.1 in
+    let last : level ≡ length (take 8 rs) = omega (arith, c.levels.ensures, c.loop-level-test.false, c.loop-level.auto.level-end) in
+    let count : c.loop-level.filled ≡ 2 ^ length (take 8 rs) = c.loop-level.invariant.count ∙ ap (λ k. 2 ^ k) last in
     c.loop-level.invariant.products e (omega (arith, count, inside))
-    ∙ ap (λ eight. 8 * bits_product p (zero_factor p c.args.factors) e eight) all.0
+    ∙ ap (λ eight. 8 * bits_product p (zero_factor p c.args.factors) e eight) (all_eight rs level last)

@@ -2,12 +2,11 @@ use Rattle.std.proofs.Common.{◌≡◌, ℕ, suc, List, set, inl, inr, ◌+◌,
 use Rattle.std.proofs.Math.Nat.{pow-suc, mod-lt}
 use Rattle.std.proofs.lemmas.List.{length-set, length-drop, get_or-drop, get_or-set_same}
 use Rattle.std.proofs.lemmas.List.Elements.{All-set, All-get_or}
-use Rattle.sip_field.proofs.Doubling.{begins, ends, first_eight, one_pair, table_room}
+use Rattle.sip_field.proofs.Doubling.{all_eight, begins, ends, one_pair, table_room, within_eight}
 use Rattle.sip_tree.specs.Steps.{no_step, IsStep, IsBelow}
 use Rattle.sip_tree.specs.declared.steps.Step.{Step}
 use Rattle.sip_tree.proofs.StepTables.{Split, split_by, left_step, right_step}
 use Rattle.sip_tree.proofs.steps.level_steps.Goals as goal
-use Rattle.sip_tree.proofs.steps.level_steps.Goals.{then-left-lt8, else-left-lt8}
 
 pub loop-level-init : goal.loop-level-init
 loop-level-init g c =
@@ -34,12 +33,9 @@ loop-entry-init g c = record {
 
 pub bounds-table-filled : goal.bounds-table-filled
 bounds-table-filled g c =
-    let eight : c.loop-level.level < 8 =
-    elim c.if-left-lt8.branch [
-      | then-left-lt8 w ↦ omega (arith, w.levels-is, w.if-left-lt8.true, c.loop-level-test.true)
-      | else-left-lt8 w ↦ omega (arith, w.levels-is, c.loop-level-test.true)
-    ] in
-    omega (arith, table_room _ _ c.loop-level.invariant.count eight, c.loop-entry-test.true)
+    let above : List ℕ = drop c.args.from c.args.seat.now in
+    let inside = within_eight above c.loop-level.level (omega (arith, c.levels.ensures, c.loop-level-test.true)) in
+    omega (arith, table_room _ _ c.loop-level.invariant.count inside.0, c.loop-entry-test.true)
 
 pub loop-entry-preserved : goal.loop-entry-preserved
 loop-entry-preserved g c =
@@ -53,18 +49,7 @@ loop-entry-preserved g c =
     let rs : List ℕ = drop c.args.from seat in
     let start : ℕ = c.args.start in
     let some : 0 < p = omega (arith, g.met.F.Field.at_least) in
-    let long : length rs ≡ c.depth.result - c.args.from = length-drop c.args.from seat ∙ ap (λ n. n - c.args.from) (sym c.depth.ensures.exact) in
-    let inside : (level < 8) × (level < length rs) =
-    elim c.if-left-lt8.branch [
-      | then-left-lt8 w ↦ (
-        omega (arith, w.levels-is, w.if-left-lt8.true, c.loop-level-test.true),
-        omega (arith, w.levels-is, w.if-left-lt8.true, c.loop-level-test.true, long),
-      )
-      | else-left-lt8 w ↦ (
-        omega (arith, w.levels-is, c.loop-level-test.true),
-        omega (arith, w.levels-is, w.if-left-lt8.false, c.loop-level-test.true, long),
-      )
-    ] in
+    let inside = within_eight rs level (omega (arith, c.levels.ensures, c.loop-level-test.true)) in
     let within : filled + i < length table =
     omega (arith, c.loop-entry.invariant.long, table_room _ _ c.loop-level.invariant.count inside.0, c.loop-entry-test.true) in
     let low : i < 2 ^ level = omega (arith, c.loop-level.invariant.count, c.loop-entry-test.true) in
@@ -113,13 +98,7 @@ returns-clause-steps g c e inside =
     let p : ℕ = g.F.Field.MODULUS in
     let rs : List ℕ = drop c.args.from c.args.seat.now in
     let level : ℕ = c.loop-level.level in
-    let long : length rs ≡ c.depth.result - c.args.from =
-    length-drop c.args.from c.args.seat.now ∙ ap (λ n. n - c.args.from) (sym c.depth.ensures.exact) in
-    let all : (take level rs ≡ take 8 rs) × (level ≡ length (take 8 rs)) =
-    first_eight rs level (elim c.if-left-lt8.branch [
-      | then-left-lt8 w ↦ inl (omega (arith, long, w.if-left-lt8.true), omega (arith, long, w.levels-is, c.loop-level-test.false, c.loop-level.auto.level-end))
-      | else-left-lt8 w ↦ inr (omega (arith, long, w.if-left-lt8.false), omega (arith, w.levels-is, c.loop-level-test.false, c.loop-level.auto.level-end))
-    ]) in
-    let count : c.loop-level.filled ≡ 2 ^ length (take 8 rs) = c.loop-level.invariant.count ∙ ap (λ k. 2 ^ k) all.1 in
-    subst (λ taken. IsStep p c.args.start taken e (get_or c.loop-level.table e no_step)) all.0
+    let last : level ≡ length (take 8 rs) = omega (arith, c.levels.ensures, c.loop-level-test.false, c.loop-level.auto.level-end) in
+    let count : c.loop-level.filled ≡ 2 ^ length (take 8 rs) = c.loop-level.invariant.count ∙ ap (λ k. 2 ^ k) last in
+    subst (λ taken. IsStep p c.args.start taken e (get_or c.loop-level.table e no_step)) (all_eight rs level last)
     (c.loop-level.invariant.steps e (omega (arith, count, inside)))
