@@ -45,12 +45,12 @@
 //! | `keep_tables` of a root | 255 · d / 8 | |
 //! | `keep_tables` of an augmented root | 518 · d / 8 | as many `plus` |
 //! | `Root::update_all` of n with tables | n · d / 8 | a few additions for each |
-//! | `AugRoot::update_all` of n with tables | n · (d / 8 + 1) | n `of_signed` |
+//! | `AugRoot::update_all` of n with tables | n · d / 8 | a few additions for each |
 //! | `Root::update_all` of n without, 32 and more | (n + 255) · d / 8 | a few additions for each |
 //! | `absorb` of each | 0 | one `plus` |
 //! | `Root::weight_above` | one for each bit that is 1 | d - level steps |
 //! | `update` of the two others | two for each bit that is 1, and one | d steps, each a `plus` |
-//! | `update_all` of them without tables, of n, 32 and more | (n + 518) · d / 8 | n `of_signed` |
+//! | `update_all` of them without tables, of n, 32 and more | (n + 518) · d / 8 | likewise |
 //! | `up` | n / 2 | n / 2 `plus` |
 #![tactic(auto)]
 

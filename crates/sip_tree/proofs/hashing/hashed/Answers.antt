@@ -1,49 +1,27 @@
-use Rattle.std.proofs.Common.{rules, ◌≡◌, ℕ, FitsSigned, w64, to_z, of_z, ◌*◌, ◌%◌, get_or, sym, ◌∙◌, ap, arith, ◌^◌, ◌<◌, length}
+use Rattle.std.proofs.Common.{rules, ◌≡◌, ℕ, FitsSigned, w64, to_z, of_z, ◌*◌, ◌%◌, ◌<◌, ◌^◌, get_or, sym, ◌∙◌, ap, arith}
 use Rattle.std.proofs.lemmas.Int.{to_z-of_z}
-use Rattle.std.proofs.lemmas.List.{take_all}
-use Rattle.std.proofs.lemmas.Nat.{mul-mod_first}
+use Rattle.std.proofs.lemmas.Nat.{mul-lt, mul-mod_first, mul-mod_second}
 use Rattle.sip_field.specs.Residue.{residue}
 use Rattle.sip_vector.specs.Weights.{hash_weight}
 use Rattle.sip_vector.specs.declared.update.Update.{Update}
-use Rattle.sip_tree.specs.Blocks.{hash_after}
-use Rattle.sip_tree.proofs.Blocks.{hash_term, sum_begins, sum_grows}
-use Rattle.sip_tree.proofs.TableSums.{no_update, sum_next}
+use Rattle.sip_tree.proofs.Blocks.{hash_term}
+use Rattle.sip_tree.proofs.TableSums.{halves_next, no_update}
 use Rattle.sip_tree.proofs.hashing.hashed.Goals as goal
-
-pub loop-update-init : goal.loop-update-init
-loop-update-init g c =
-    let begins = sum_begins g.F.Field.MODULUS _ _ (c.from-sum.ensures ∙ c.number.ensures) (g.met.F.Field.below c.args.hash) g.met.F.Field.at_most in
-    record { most = begins.0; is = λ challenges are long within. begins.1 }
 
 pub loop-update-preserved : goal.loop-update-preserved
 loop-update-preserved g c =
     let p : ℕ = g.F.Field.MODULUS in
     let u : Update = get_or c.args.updates.now c.loop-update.update-index no_update in
-    let x : ℕ = c.from-sum-in-loop-update.result in
-    let w : ℕ = c.loosely_by_steps-weight.result in
-    let d : ℕ = c.number-delta.result in
+    let w : ℕ = c.from.result in
+    let d : ℕ = c.from-in-loop-update.result in
     let fits : FitsSigned w64 u.delta = search rules in
     let kept : to_z w64 (of_z w64 u.delta) ≡ u.delta = to_z-of_z w64 u.delta fits in
-    let delta : d ≡ residue p u.delta = c.number-delta.ensures ∙ c.of_signed.ensures ∙ ap (residue p) kept in
-    record {
-      most = omega (arith, c.from-sum-in-loop-update.ensures, c.loose_times.type_inv, c.loop-update.invariant.most);
-      is = sum_next p _ _ (hash_term p) (g.F.Field.number c.args.hash) c.args.updates.now c.loop-update.update-index _ x c.loop-update-test.true
-          (λ challenges are long within.
-          let weight : ℕ = hash_weight p u.item challenges in
-          ap (λ y. y % p) c.from-sum-in-loop-update.ensures ∙ c.loose_times.ensures.residue ∙ sym (mul-mod_first w d p)
-          ∙ ap (λ y. (y * d) % p) (c.loosely_by_steps-weight.ensures.weight challenges are long within)
-          ∙ ap (λ y. (weight * y) % p) delta
-          ∙ ap (λ y. y % p) (let same : weight * residue p u.delta ≡ residue p u.delta * weight = omega arith in same))
-          c.loop-update.invariant.is;
-    }
-
-pub overflow_add-sum : goal.overflow_add-sum
-overflow_add-sum g c =
-    let short : length c.args.updates.now < 2 ^ 64 = search rules in
-    let more : c.from-sum-in-loop-update.result < 2 ^ 64 = omega (arith, c.from-sum-in-loop-update.ensures, c.loose_times.type_inv) in
-    omega (arith, (sum_grows _ _ _ _ c.loop-update-test.true short c.loop-update.invariant.most more).0)
-
-pub returns : goal.returns
-returns g c challenges are long within =
-    c.of_wide.ensures ∙ c.loop-update.invariant.is challenges are long within
-    ∙ ap (hash_after g.F.Field.MODULUS challenges (g.F.Field.number c.args.hash)) (take_all c.loop-update.update-index c.args.updates.now c.loop-update-test.false)
+    let delta : d % p ≡ residue p u.delta = ap (λ y. y % p) c.from-in-loop-update.ensures ∙ c.loose_signed.ensures.residue ∙ ap (residue p) kept in
+    let short : w * d < 2 ^ 64 * 2 ^ 64 = mul-lt w d (2 ^ 64) (2 ^ 64) (omega (arith, c.from.ensures, c.loosely_by_steps-weight.type_inv)) (omega (arith, c.from-in-loop-update.ensures, c.loose_signed.type_inv)) in
+    halves_next p _ _ (hash_term p) (g.F.Field.number c.args.hash) c.args.updates.now c.loop-update.update-index _ _ (w * d) c.loop-update-test.true short
+    (λ challenges are long within.
+    let weight : ℕ = hash_weight p u.item challenges in
+    let weighed : w % p ≡ weight = ap (λ y. y % p) c.from.ensures ∙ c.loosely_by_steps-weight.ensures.weight challenges are long within in
+    sym (mul-mod_first w d p) ∙ sym (mul-mod_second (w % p) d p) ∙ ap (λ y. (y * (d % p)) % p) weighed ∙ ap (λ y. (weight * y) % p) delta
+    ∙ ap (λ y. y % p) (let same : weight * residue p u.delta ≡ residue p u.delta * weight = omega arith in same))
+    c.loop-update.invariant
