@@ -4,7 +4,8 @@ ghost use Rattle.sip_counts.specs.Rounds.{sum_of_ends};
 
 use sip_field::Field;
 
-/// `x` to this power, by squares of its halves: at most two `times` for each bit of the degree.
+/// `x` to this power, by squares of its halves: at most two `times` for each bit of the degree. It
+/// calls itself down to the square alone, since a call more takes as long as a product.
 pub(crate) fn power<F: Field>(x: F, degree: u8) -> F
     ensures { F.number result ≡ (F.number x ^ degree) % F.MODULUS }
 {
@@ -12,6 +13,8 @@ pub(crate) fn power<F: Field>(x: F, degree: u8) -> F
         F::of(1)
     } else if degree == 1 {
         x
+    } else if degree == 2 {
+        x.times(x)
     } else {
         let half = power(x, degree / 2);
         let square = half.times(half);

@@ -8,6 +8,13 @@ returns-then-degree-eq1 g t c =
     first-power g.F.Field.MODULUS number (g.met.F.Field.below c.args.x)
     ∙ ap (λ k. (number ^ k) % g.F.Field.MODULUS) (sym c.if-degree-eq1.true)
 
+pub returns-then-degree-eq2 : goal.returns-then-degree-eq2
+returns-then-degree-eq2 g t c =
+    let number = g.F.Field.number c.args.x in
+    let once : number ≡ (number ^ 1) % g.F.Field.MODULUS = first-power g.F.Field.MODULUS number (g.met.F.Field.below c.args.x) in
+    power-double g.F.Field.MODULUS number 1 _ _ once c.times.ensures
+    ∙ ap (λ k. (number ^ k) % g.F.Field.MODULUS) (sym c.if-degree-eq2.true)
+
 pub returns-then-degree-eq0-2 : goal.returns-then-degree-eq0-2
 returns-then-degree-eq0-2 g t c =
     let number = g.F.Field.number c.args.x in
@@ -23,5 +30,5 @@ returns-else-degree-eq0-2 g t c =
     let all : half + half + 1 ≡ c.args.degree = omega (arith, c.if-degree-eq0-2.false) in
     power-next g.F.Field.MODULUS number (half + half) _ _
     (power-double g.F.Field.MODULUS number half _ _ c.power-half.ensures c.times-square.ensures)
-    c.times.ensures
+    c.times-else-degree-eq0-2.ensures
     ∙ ap (λ k. (number ^ k) % g.F.Field.MODULUS) all
