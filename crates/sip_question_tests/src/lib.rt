@@ -1,6 +1,6 @@
 //! What the helper of questions does over worked rows, also over a store of its own, and what is
 //! asked of it. Nothing but tests stands here, so that this layer is proved once, and what the
-//! tests of both ends take from here: `asking` and `kinds`.
+//! tests of both ends take from here: `asking`, `kinds` and `store_rows`.
 #![tactic(auto)]
 
 pub mod asking;
@@ -19,6 +19,7 @@ mod question_ask_tests;
 mod question_serve_tests;
 #[cfg(test)]
 mod store_ask_tests;
+pub mod store_rows;
 #[cfg(test)]
 mod store_tests;
 #[cfg(test)]

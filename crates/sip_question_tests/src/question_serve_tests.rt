@@ -1,5 +1,6 @@
 // What a helper of questions says, over whole talks.
 use crate::facts::expect;
+use crate::store_rows::END;
 use sip_check_tests::frames::{
     BYE, CUBES, ENTRY, F2, FOUND_0, FOUND_2, HEAVY_4, LAST, LEAVES, NINE, NO_SIBLINGS, NODES,
     OUT_OF_TURN, REVEAL, SQUARES, STREAM, SUB_1_2, SUCC_1, SUM,
@@ -10,9 +11,6 @@ use sip_ports::MemoryLink;
 use sip_questions::serve_questions;
 use std::alloc::Global;
 use std::process::Abort;
-
-// The end of a talk of moments or of lookups.
-pub(crate) const END: [u8; 3] = [0x23, 0, 0];
 
 // The helper of questions.
 pub(crate) struct Helper;

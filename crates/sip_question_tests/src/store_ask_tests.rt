@@ -8,7 +8,8 @@ use crate::facts::expect;
 use crate::kinds::{
     HEAVY, INDEX, Kind, MOMENT, PRED, SQUARE, SUB, SUCC, SUM_1_3, asked_by, numbers_of_four, wanted,
 };
-use crate::store_tests::{HELD_3, HELD_4, OPEN, RECALL_3, RECORDS, served};
+use crate::store_rows::{HELD_3, HELD_4, OPEN, RECALL_3, RECORDS};
+use crate::store_tests::served;
 use sip_check_tests::frames::{BYE, F2, INDEX_1, PRED_1, REVEAL, SUB_1_2, SUCC_1};
 use sip_field::{Field, M61};
 use sip_questions::{Question, StoreStatus};

@@ -26,3 +26,5 @@ mod question_talks_tests;
 mod serving;
 #[cfg(test)]
 mod serving_tests;
+#[cfg(test)]
+mod store_tests;

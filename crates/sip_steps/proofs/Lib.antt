@@ -9,5 +9,7 @@ pub mod LookSteps
 pub mod Lookings
 pub mod OneQuestion
 pub mod OneTalk
+pub mod OverStore
 pub mod Posings
 pub mod Questionings
+pub mod StoreCalls

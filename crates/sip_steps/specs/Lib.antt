@@ -4,3 +4,5 @@ pub mod Openings
 pub mod Posed
 pub mod Questioned
 pub mod Served
+pub mod StoreServed
+pub mod inside

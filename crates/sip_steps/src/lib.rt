@@ -7,7 +7,7 @@
 //! a stream: so questions of several kinds can be asked one after another in one talk. It is a
 //! [`Posing`], for every query and every moment, or a [`Looking`], for a lookup, of which the place
 //! is told before the entries that prove it are asked for. [`Serving`] is the helper's end of a
-//! talk, of whatever helper.
+//! talk, of whatever helper, and [`ServingStore`] that of a helper with a store of its own.
 //!
 //! # What is proved
 //!
@@ -19,6 +19,8 @@
 //!   a run promises it over a link.
 //! - The bytes that `Serving` took and sent are turns of its helper's rules, and its status says
 //!   how the talk ended, as of a talk on a link.
+//! - Those of `ServingStore` are a talk over its store as on a link, and the store is left alone but
+//!   in the call in which it became known how many of its records are to be heard.
 //! - Of bytes behind the end of a question or of a talk none is taken.
 //!
 //! # The definitions to read
@@ -31,10 +33,12 @@
 //! | `Looked` | the same of a lookup |
 //! | `Questioned` | the same of a question of any kind |
 //! | `Served` | what the bytes of a helper's talk so far are |
+//! | `StoreServed` | the same over a store of its own |
 #![tactic(auto)]
 
 mod asking;
 mod beginning;
+mod coming;
 mod found;
 pub mod laws;
 mod looking;
@@ -43,6 +47,7 @@ mod posing;
 mod question;
 mod seeking;
 mod serving;
+mod serving_store;
 
 pub use asking::Asking;
 pub use looking::Looking;
@@ -50,3 +55,4 @@ pub use opening::Opening;
 pub use posing::Posing;
 pub use question::QuestionAsking;
 pub use serving::Serving;
+pub use serving_store::{ServingStore, StoreStage};

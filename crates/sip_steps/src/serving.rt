@@ -1,19 +1,16 @@
 //! A helper's end of a talk, without a link.
 
-ghost use Rattle.std.specs.Prelude.{◌≡◌, ◌<◌, ◌≤◌, ◌++◌, [], ℕ, List, None, Some, false};
-ghost use Rattle.std.specs.Prelude.{length, take, IfOk, IsSome, IsTrue, Ok, Err};
+ghost use Rattle.std.specs.Prelude.{◌≡◌, ◌<◌, ◌≤◌, ◌++◌, [], List, None, Some, false};
+ghost use Rattle.std.specs.Prelude.{length, take, IfOk, IsSome, IsTrue};
 ghost use Rattle.sip_ports.specs.declared.port.TalkEvent.{TalkEvent as AnyEvent};
-ghost use Rattle.sip_ports.specs.Ports.{GoesOn, Lasts, Rose, ins, outs};
-ghost use Rattle.sip_wire.specs.Frames.{frame_bytes};
-ghost use Rattle.sip_wire.specs.Spelling.{asked};
+ghost use Rattle.sip_ports.specs.Ports.{Lasts, Rose, ins};
 ghost use Rattle.sip_helper.specs.inside.Measures.{most_turns};
-ghost use Rattle.sip_helper.specs.UnderWay.{UnderWay};
 ghost use Rattle.sip_steps.specs.Served.{HasBegun, IsServed, Passes, end_seen};
 
+use crate::coming::Coming;
 use sip_field::OutOfMemory;
-use sip_helper::{HelpStatus, Helps, answer_turn};
+use sip_helper::{HelpStatus, Helps};
 use sip_ports::Sink;
-use sip_wire::{Frame, Place, Taken, Version};
 use std::alloc::Global;
 
 /// A helper's end of a talk that is under way: the helper, and room for one frame.
@@ -24,11 +21,7 @@ use std::alloc::Global;
 #[derive(Drop)]
 pub struct Serving<H: Helps + Drop> {
     helper: H,
-    frame: Frame,
-    // While the talk goes on, how many bytes the frame takes at least before it is looked at.
-    lacking: usize,
-    // How many bytes came in whole turns.
-    offset: u64,
+    coming: Coming,
     status: Option<HelpStatus>,
 }
 
@@ -45,12 +38,10 @@ impl<H: Helps + Drop> Serving<H> {
         ensures begun { IfOk result (HasBegun H.rules H.turns_left H.is_live) }
         ensures served { IfOk result (IsServed H.rules H.turns_left H.is_live helper []) }
     {
-        let frame = Frame::new(alloc)?;
+        let coming = Coming::begin(alloc)?;
         Ok(Serving {
             helper,
-            frame,
-            lacking: 0,
-            offset: 0,
+            coming,
             status: None,
         })
     }
@@ -61,49 +52,6 @@ impl<H: Helps + Drop> Serving<H> {
         ensures { result ≡ self.now.status }
     {
         self.status
-    }
-
-    // Looks at what came of a frame: a part, a message, which is answered, or none.
-    fn look<K: Sink>(&mut self, place: Place, version: Version, out: &mut K)
-        requires going { self.old.status ≡ None }
-        requires live { IsTrue (H.is_live self.old.helper) }
-        requires turns { (first : H) × (before : List AnyEvent)
-            × UnderWay H.rules H.turns_left first 0 (Some []) (Some before) self.old.helper
-            self.old.offset }
-        requires version { version ≡ H.rules.version self.old.helper }
-        requires place { place ≡ H.rules.place self.old.helper }
-        requires most { length (frame_bytes self.old.frame)
-            ≤ asked version place (frame_bytes self.old.frame) }
-        ensures serves { (first : H) (before : List AnyEvent)
-            → UnderWay H.rules H.turns_left first 0 (Some []) (Some before) self.old.helper
-            self.old.offset → (sent : List ℕ) × GoesOn (K.talk out.old) (K.talk out.new) (outs sent)
-            × IsServed H.rules H.turns_left H.is_live first
-            ((before ++ ins (frame_bytes self.old.frame)) ++ outs sent) self.new }
-        ensures cause { self.new.status ≡ Some HelpStatus.PeerFault
-            → Rose (K.faults out.old) (K.faults out.new) }
-        ensures memory { self.new.status ≡ Some HelpStatus.OutOfMemory
-            → Rose (K.wants out.old) (K.wants out.new) }
-        ensures lasts { Lasts K.faults K.wants K.is_sure out.old out.new }
-    {
-        let offset = self.offset;
-        match self.frame.judge(place, version) {
-            Taken::Part => self.lacking = self.frame.room(place, version),
-            Taken::Whole => {
-                if let Err(status) = answer_turn(
-                    &mut self.helper,
-                    self.frame.message(),
-                    out,
-                    offset,
-                ) {
-                    self.status = Some(status);
-                    return;
-                }
-                self.offset = offset + self.frame.bytes().len() as u64;
-                self.frame.clear();
-                self.lacking = 0;
-            }
-            Taken::NoFrame(_) => self.status = Some(HelpStatus::BadFrame { offset }),
-        }
     }
 
     // Takes bytes of the frame that is coming: at least one, and none behind it.
@@ -126,10 +74,10 @@ impl<H: Helps + Drop> Serving<H> {
     {
         let version = self.helper.version_due();
         let place = self.helper.place_due();
-        let count = self.frame.room(place, version).min(bytes.len());
-        self.frame.put(place, version, &bytes[..count]);
-        self.look(place, version, out);
-        count
+        let taken = self.coming.put(place, version, bytes);
+        let came = self.coming.look(&mut self.helper, place, version, out);
+        self.status = came.end();
+        taken
     }
 
     // Puts bytes behind those of the frame that are there, too few for a look at it.
@@ -137,7 +85,7 @@ impl<H: Helps + Drop> Serving<H> {
     fn gather(&mut self, bytes: &[u8])
         requires going { self.old.status ≡ None }
         requires begun { HasBegun H.rules H.turns_left H.is_live self.old }
-        requires few { length bytes.now < self.old.lacking }
+        requires few { length bytes.now < self.old.coming.lacking }
         ensures going { self.new.status ≡ None }
         ensures served { (first : H) (events : List AnyEvent)
             → IsServed H.rules H.turns_left H.is_live first events self.old
@@ -145,8 +93,7 @@ impl<H: Helps + Drop> Serving<H> {
     {
         let version = self.helper.version_due();
         let place = self.helper.place_due();
-        self.frame.put(place, version, bytes);
-        self.lacking -= bytes.len();
+        self.coming.gather(place, version, bytes);
     }
 
     // Takes bytes that came, and looks at each frame as far as it came.
@@ -199,7 +146,7 @@ impl<H: Helps + Drop> Serving<H> {
             → Rose (K.wants out.old) (K.wants out.new) }
         ensures lasts { Lasts K.faults K.wants K.is_sure out.old out.new }
     {
-        if self.status.is_none() && bytes.len() < self.lacking {
+        if self.status.is_none() && bytes.len() < self.coming.lacking {
             self.gather(bytes);
             return bytes.len();
         }
