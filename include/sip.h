@@ -275,13 +275,16 @@ typedef struct sip_ending {
 
 /* What is wanted before anything goes on. */
 typedef enum sip_wants {
-    SIP_WANTS_SEND = 1,   /* send what is due: sip_asking_due */
-    SIP_WANTS_BYTES = 2,  /* hand over what comes, or that nothing will: sip_asking_feed, _close */
-    SIP_WANTS_STORE = 3,  /* store the file: sip_asking_to_store, _stored */
-    SIP_WANTS_READ = 4,   /* read the answer: sip_asking_answer, _pairs, _next */
-    SIP_WANTS_NOTHING = 5 /* it ended: sip_asking_ended */
+    SIP_WANTS_SEND = 1,    /* send what is due: sip_asking_due, sip_run_due */
+    SIP_WANTS_BYTES = 2,   /* hand over what comes, or that nothing will: sip_asking_feed, _close */
+    SIP_WANTS_STORE = 3,   /* store the file: sip_asking_to_store, _stored */
+    SIP_WANTS_READ = 4,    /* read the answer: sip_asking_answer, _pairs, _next */
+    SIP_WANTS_NOTHING = 5, /* it ended: sip_asking_ended */
+    SIP_WANTS_UPDATES = 6, /* hand over updates, or that none are left: sip_run_update, _end */
+    SIP_WANTS_ASK = 7      /* all of the stream was sent, so ask: sip_run_ask */
 } sip_wants;
 
+/* What is asked: a sketch, or a run (below). The calls are the same for both. */
 typedef struct sip_asking {
     void *at;
     bool full;
@@ -315,7 +318,7 @@ sip_status sip_asking_close(sip_asking *asking);
 /* Writes the bytes of the sketch with the next question's seat used to the front of `to`: *size of
    them. Store them in the place of the sketch so that no crash brings it back as it was: in a new
    file, synced, which is renamed to its name, and the folder synced.
-   SIP_EMPTY; SIP_NOT_NOW; SIP_NO_ROOM with room for less: *size is written. */
+   SIP_EMPTY; SIP_NOT_NOW, of a run always; SIP_NO_ROOM with room for less: *size is written. */
 sip_status sip_asking_to_store(sip_asking *asking, uint8_t *to, size_t room, size_t *size);
 
 /* They are stored: from here on bytes of the question are due, and its seat is used. To say so too
@@ -332,15 +335,69 @@ sip_status sip_asking_pairs(sip_asking *asking, size_t from, sip_entry *to, size
                             size_t *count);
 
 /* The answer was read: the next question has its turn, or the farewell is due. SIP_EMPTY;
-   SIP_NOT_NOW. */
+   SIP_NOT_NOW; of a run SIP_NO_MEMORY, with which it ended. */
 sip_status sip_asking_next(sip_asking *asking);
 
 /* How it ended: SIP_OK where each question was answered; SIP_REJECTED, SIP_OUT_OF_STEP,
-   SIP_BAD_FRAME, SIP_PEER_CLOSED, with *ending; SIP_NOT_NOW where it has not. SIP_EMPTY. */
+   SIP_BAD_FRAME, SIP_PEER_CLOSED, SIP_NO_MEMORY, with *ending; SIP_NOT_NOW where it has not.
+   SIP_EMPTY. */
 sip_status sip_asking_ended(sip_asking *asking, sip_ending *ending);
 
 /* Lets go of it. The handle is empty then. A seat whose file was stored stays used. */
 void sip_asking_free(sip_asking *asking);
+
+/* ---- a run: a stream that is sent as it goes by, and then questions ---- */
+
+#define SIP_MOST_FRAME 8709 /* bytes that are due of a run at once */
+
+typedef struct sip_run {
+    void *at;
+    bool full;
+} sip_run;
+
+/* Begins a run of 1 to SIP_MOST_QUESTIONS questions in an empty handle, before anything is said.
+   The other end is `sip help` where all are queries, and else a helper of questions of every kind,
+   or whatever keeps to the protocol of these. `sip helplook` and `sip helpmom` are none: their talks
+   have a farewell of their own.
+   seed: SIP_SEED bytes, for this run alone. depth: 1 to 48.
+   The first of: SIP_FULL; SIP_BAD_LENGTH; SIP_BAD_DEPTH; SIP_BAD_CODE; SIP_UNFIT: *ending is
+   written; SIP_SEED_SPENT; SIP_NO_MEMORY. Takes about 12 KB and a seat for each question. */
+sip_status sip_run_begin(sip_run *run, const uint8_t *seed, size_t seed_length, uint8_t depth,
+                         const sip_question *questions, size_t count, sip_ending *ending);
+
+/* Tells what is wanted: SIP_WANTS_SEND, SIP_WANTS_UPDATES or SIP_WANTS_ASK. SIP_EMPTY. */
+sip_status sip_run_wants(sip_run *run, uint8_t *wants);
+
+/* Hands out the bytes that are due, each once: *count of them, 0 where none are: the opening first,
+   a frame behind each 512 updates, and behind the end the rest.
+   SIP_EMPTY; SIP_NO_ROOM with room for less than SIP_MOST_FRAME, which is written to *count. */
+sip_status sip_run_due(sip_run *run, uint8_t *to, size_t room, size_t *count);
+
+/* Takes updates of the stream, in pieces of any lengths: *taken of them, which are all while
+   updates are wanted. None are taken while bytes are due, and none behind the end.
+   SIP_EMPTY; SIP_BAD_SIDE, SIP_BAD_ITEM, SIP_ZERO_DELTA, SIP_TOO_HEAVY of the one at the place
+   *taken, from 0, where those before it are taken. No memory. */
+sip_status sip_run_update(sip_run *run, const sip_update *updates, size_t count, size_t *taken);
+
+/* The same of whole records as they lie in a file of this form (a sip_form), the number of bytes
+   being `length`. SIP_BAD_CODE of the form; SIP_BAD_LENGTH where the last record is cut; else as
+   above. */
+sip_status sip_run_update_records(sip_run *run, uint8_t form, const uint8_t *records,
+                                  size_t length, size_t *taken);
+
+/* The stream ends: the rest of it is due. SIP_EMPTY; SIP_NOT_NOW where no updates are wanted. */
+sip_status sip_run_end(sip_run *run);
+
+/* Begins to ask the questions, in order, in an empty handle: what is asked is in `asking` then, for
+   whose calls see above; nothing of it is stored. The handle of the run is empty then, whatever
+   comes of it, but for the first four:
+   SIP_FULL of `asking`; SIP_EMPTY; SIP_OTHER_HANDLE; SIP_NOT_NOW where not all was sent;
+   SIP_TOO_WIDE, SIP_TOO_HIGH: *ending is written; SIP_NO_MEMORY. Takes a frame of 8,709 bytes, and
+   room for the answer; so does sip_asking_next for each question behind the first. */
+sip_status sip_run_ask(sip_run *run, sip_asking *asking, sip_ending *ending);
+
+/* Lets go of a run. The handle is empty then. */
+void sip_run_free(sip_run *run);
 
 #ifdef __cplusplus
 }

@@ -1,35 +1,6 @@
 /* A sketch that is asked through C: the worked talk byte by byte, in pieces of one byte, and the ends
    that it can have. It prints each difference and ends with 1 where there is one. */
-#include "sip.h"
-
-#include <stdio.h>
-#include <stdlib.h>
-#include <string.h>
-
-static int failures;
-
-static void same(const char *what, unsigned long long is, unsigned long long wanted) {
-    if (is != wanted) {
-        printf("%s: %llu in place of %llu\n", what, is, wanted);
-        failures++;
-    }
-}
-
-static size_t bytes_of(const char *hex, uint8_t *to) {
-    size_t count = 0;
-    int half = -1;
-    for (; *hex; hex++) {
-        int digit = *hex <= '9' ? *hex - '0' : *hex - 'a' + 10;
-        if (*hex == ' ') continue;
-        if (half < 0) {
-            half = digit;
-        } else {
-            to[count++] = (uint8_t)(16 * half + digit);
-            half = -1;
-        }
-    }
-    return count;
-}
+#include "worked.h"
 
 static void begin(sip_sketch *sketch) {
     const uint8_t kinds[2] = {SIP_ENTRIES, SIP_SUMS_0};
@@ -38,35 +9,6 @@ static void begin(sip_sketch *sketch) {
     size_t at = 0;
     same("begin", sip_sketch_begin(sketch, seed, 32, 2, 1, 1, kinds, 2), SIP_OK);
     same("update", sip_sketch_update(sketch, three, 3, &at), SIP_OK);
-}
-
-static void wants(sip_asking *asking, uint8_t wanted) {
-    uint8_t is = 0;
-    same("wants", sip_asking_wants(asking, &is), SIP_OK);
-    same("wanted", is, wanted);
-}
-
-/* What is due is this. */
-static void due(sip_asking *asking, const char *hex) {
-    uint8_t wanted[SIP_MOST_DUE], is[SIP_MOST_DUE];
-    size_t count = 0, size = bytes_of(hex, wanted);
-    wants(asking, SIP_WANTS_SEND);
-    same("due", sip_asking_due(asking, is, SIP_MOST_DUE - 1, &count), SIP_NO_ROOM);
-    same("room", count, SIP_MOST_DUE);
-    same("due", sip_asking_due(asking, is, SIP_MOST_DUE, &count), SIP_OK);
-    same("size", count, size);
-    same("bytes", (unsigned long long)memcmp(is, wanted, size), 0);
-}
-
-/* This comes, byte by byte, and all of it is taken. */
-static void feed(sip_asking *asking, const char *hex) {
-    uint8_t bytes[256];
-    size_t size = bytes_of(hex, bytes), taken = 0;
-    wants(asking, SIP_WANTS_BYTES);
-    for (size_t i = 0; i < size; i++) {
-        same("feed", sip_asking_feed(asking, bytes + i, 1, &taken), SIP_OK);
-        same("taken", taken, 1);
-    }
 }
 
 static const char held[] = "26 0020 0000000000000003 0000000000000009"
@@ -100,8 +42,7 @@ static void worked(void) {
     sip_asking asking = SIP_EMPTY_HANDLE;
     sip_ending ending;
     sip_answer answer;
-    sip_entry pairs[2];
-    size_t count = 0, taken = 7;
+    size_t count = 0;
     uint8_t more = 0;
     begin(&sketch);
     same("ask", sip_asking_begin(&asking, &sketch, &sub, 1, &ending), SIP_OK);
@@ -110,22 +51,11 @@ static void worked(void) {
     feed(&asking, held);
     store(&asking);
     due(&asking, "04 0009 01 00000001 00000002");
-    feed(&asking, "13 000e 0001 00000002 0000000000000005"
-                  "14 0011 03 0000000000000003 0000000000000001");
-    due(&asking, "05 0008 1207be3415bc170e");
+    feed(&asking, sub_replies);
+    due(&asking, sub_reveal);
     same("no answer yet", sip_asking_answer(&asking, &answer), SIP_NOT_NOW);
-    feed(&asking, "14 0001 00");
-    wants(&asking, SIP_WANTS_READ);
-    same("feed", sip_asking_feed(&asking, &more, 1, &taken), SIP_OK);
-    same("nothing more is taken", taken, 0);
-    same("answer", sip_asking_answer(&asking, &answer), SIP_OK);
-    same("kind", answer.kind, SIP_PAIRS);
-    same("question", answer.question, 1);
-    same("pairs", answer.pairs, 1);
-    same("pairs", sip_asking_pairs(&asking, 0, pairs, 2, &count), SIP_OK);
-    same("count", count, 1);
-    same("item", pairs[0].item, 2);
-    same("value", (unsigned long long)pairs[0].value, 5);
+    feed(&asking, sub_last);
+    read_sub(&asking);
     same("not over", sip_asking_ended(&asking, &ending), SIP_NOT_NOW);
     same("next", sip_asking_next(&asking), SIP_OK);
     due(&asking, "06 0000");
@@ -159,10 +89,9 @@ static void ends(void) {
     store(&asking);
     due(&asking, "04 0009 01 00000001 00000002");
     /* The entry is 6 in place of 5: what is wrong shows at the root, behind the last reply. */
-    feed(&asking, "13 000e 0001 00000002 0000000000000006"
-                  "14 0011 03 0000000000000003 0000000000000001");
-    due(&asking, "05 0008 1207be3415bc170e");
-    feed(&asking, "14 0001 00");
+    feed(&asking, sub_wrong);
+    due(&asking, sub_reveal);
+    feed(&asking, sub_last);
     wants(&asking, SIP_WANTS_NOTHING);
     same("rejected", sip_asking_ended(&asking, &ending), SIP_REJECTED);
     same("question", ending.question, 1);
@@ -191,7 +120,5 @@ static void ends(void) {
 int main(void) {
     worked();
     ends();
-    if (failures) return EXIT_FAILURE;
-    puts("asking: all as worked out");
-    return EXIT_SUCCESS;
+    return ended("asking: all as worked out");
 }

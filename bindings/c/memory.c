@@ -46,10 +46,54 @@ static sip_status steps(sip_sketch *sketch, sip_sketch *again, sip_asking *askin
     return status;
 }
 
+/* A run begins, is sent a stream, and begins to be asked, up to the first other status. */
+static sip_status run_steps(sip_run *run, sip_asking *asking) {
+    static uint8_t frame[SIP_MOST_FRAME];
+    const uint8_t seed[SIP_SEED] = {0};
+    const sip_update three[3] = {{0, 3, 0}, {2, 5, 0}, {3, 1, 0}};
+    const sip_question questions[2] = {{1, 2, SIP_SUB, 0}, {4, 0, SIP_HEAVY, 0}};
+    size_t count = 0;
+    sip_ending ending;
+    sip_status status = sip_run_begin(run, seed, 32, 2, questions, 2, &ending);
+    if (status == SIP_OK) status = sip_run_due(run, frame, sizeof frame, &count);
+    if (status == SIP_OK) status = sip_run_update(run, three, 3, &count);
+    if (status == SIP_OK) status = sip_run_end(run);
+    if (status == SIP_OK) status = sip_run_due(run, frame, sizeof frame, &count);
+    if (status == SIP_OK) status = sip_run_ask(run, asking, &ending);
+    return status;
+}
+
+/* Of a run only the tables are for speed alone: without them it goes on. */
+static long refused_runs(void) {
+    sip_run run = SIP_EMPTY_HANDLE;
+    sip_asking asking = SIP_EMPTY_HANDLE;
+    long all;
+    requests = 0;
+    same("all memory", run_steps(&run, &asking), SIP_OK);
+    all = requests;
+    for (long i = 0; i <= all; i++) {
+        sip_status status;
+        uint8_t wants;
+        sip_asking_free(&asking);
+        sip_run_free(&run);
+        requests = 0;
+        refused = i;
+        status = run_steps(&run, &asking);
+        refused = -1;
+        if (status != SIP_OK) same("status", status, SIP_NO_MEMORY);
+        /* What could not be asked is gone, and what was not begun is not there. */
+        if (status != SIP_OK) same("run", sip_run_wants(&run, &wants), SIP_EMPTY);
+        if (status != SIP_OK) same("asking", sip_asking_wants(&asking, &wants), SIP_EMPTY);
+    }
+    sip_asking_free(&asking);
+    sip_run_free(&run);
+    return all;
+}
+
 int main(void) {
     sip_sketch sketch = SIP_EMPTY_HANDLE, again = SIP_EMPTY_HANDLE;
     sip_asking asking = SIP_EMPTY_HANDLE;
-    long all;
+    long all, runs;
     same("all memory", steps(&sketch, &again, &asking), SIP_OK);
     all = requests;
     for (long i = 0; i <= all; i++) {
@@ -67,7 +111,8 @@ int main(void) {
     sip_asking_free(&asking);
     sip_sketch_free(&again);
     sip_sketch_free(&sketch);
+    runs = refused_runs();
     if (failures) return EXIT_FAILURE;
-    printf("memory: each of %ld requests refused in turn is a status\n", all);
+    printf("memory: each of %ld and of %ld requests refused in turn is a status\n", all, runs);
     return EXIT_SUCCESS;
 }

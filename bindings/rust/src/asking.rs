@@ -1,4 +1,4 @@
-//! A sketch that is asked.
+//! A sketch or a run that is asked.
 
 use crate::error::{Ended, Error};
 use crate::question::{Answer, Entry, Question, Value};
@@ -37,7 +37,7 @@ impl std::fmt::Display for Refused {
 
 impl std::error::Error for Refused {}
 
-/// A sketch that is asked questions, by whoever has a loop and a disk of their own: do what is
+/// A sketch, or a [run](crate::Run), that is asked questions, by whoever has a loop and a disk of their own: do what is
 /// [wanted](Asking::wants), until it ended. [`ask`](crate::ask) is such a loop over a link.
 ///
 /// A question's seat is used in the file that is stored before a byte of the question is due. A

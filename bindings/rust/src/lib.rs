@@ -34,12 +34,14 @@ mod link;
 mod question;
 #[allow(unsafe_code)]
 mod raw;
+mod run;
 mod sketch;
 
 pub use asking::{Asking, Refused, Wants};
 pub use error::{BadUpdate, Ended, Error, Reason, Unasked};
 pub use link::{ask, AskFault};
 pub use question::{Answer, Entry, Question, Value};
+pub use run::{Run, RunWants};
 pub use sketch::{Form, Part, Seat, SeatKind, Sketch, Told, Update};
 
 /// The version of the library that is linked: the first number times 2^16, the second times 2^8, and

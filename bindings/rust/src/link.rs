@@ -31,7 +31,7 @@ impl From<io::Error> for AskFault {
     }
 }
 
-/// Asks over a link until it ended. `store` puts the bytes that it gets in the place of the sketch,
+/// Asks over a link until it ended. `store`, which a run never calls, puts the bytes that it gets in the place of the sketch,
 /// as [`Asking::to_store`] says. `answered` gets each answer as it comes: those that came before a
 /// fault are good.
 ///

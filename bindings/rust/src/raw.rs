@@ -127,6 +127,33 @@ extern "C" {
     fn sip_asking_next(asking: *mut Spot) -> u32;
     fn sip_asking_ended(asking: *mut Spot, ending: *mut EndingCode) -> u32;
     fn sip_asking_free(asking: *mut Spot);
+    fn sip_run_begin(
+        run: *mut Spot,
+        seed: *const u8,
+        seed_length: usize,
+        depth: u8,
+        questions: *const QuestionCode,
+        count: usize,
+        ending: *mut EndingCode,
+    ) -> u32;
+    fn sip_run_wants(run: *mut Spot, wants: *mut u8) -> u32;
+    fn sip_run_due(run: *mut Spot, to: *mut u8, room: usize, count: *mut usize) -> u32;
+    fn sip_run_update(
+        run: *mut Spot,
+        updates: *const Update,
+        count: usize,
+        taken: *mut usize,
+    ) -> u32;
+    fn sip_run_update_records(
+        run: *mut Spot,
+        form: u8,
+        records: *const u8,
+        length: usize,
+        taken: *mut usize,
+    ) -> u32;
+    fn sip_run_end(run: *mut Spot) -> u32;
+    fn sip_run_ask(run: *mut Spot, asking: *mut Spot, ending: *mut EndingCode) -> u32;
+    fn sip_run_free(run: *mut Spot);
 }
 
 /// The status of a call that did what it was for.
@@ -183,7 +210,12 @@ impl Handle {
         Handle::empty(sip_sketch_free)
     }
 
-    /// An empty handle for a sketch that is asked.
+    /// An empty handle for a run.
+    pub(crate) fn of_run() -> Handle {
+        Handle::empty(sip_run_free)
+    }
+
+    /// An empty handle for what is asked.
     pub(crate) fn of_asking() -> Handle {
         Handle::empty(sip_asking_free)
     }
@@ -305,5 +337,54 @@ impl Handle {
 
     pub(crate) fn ended(&self, ending: &mut EndingCode) -> u32 {
         unsafe { sip_asking_ended(self.spot(), ending) }
+    }
+
+    pub(crate) fn begin_run(
+        &mut self,
+        seed: &[u8],
+        depth: u8,
+        questions: &[QuestionCode],
+        ending: &mut EndingCode,
+    ) -> u32 {
+        unsafe {
+            sip_run_begin(
+                self.spot(),
+                seed.as_ptr(),
+                seed.len(),
+                depth,
+                questions.as_ptr(),
+                questions.len(),
+                ending,
+            )
+        }
+    }
+
+    pub(crate) fn run_wants(&self, wants: &mut u8) -> u32 {
+        unsafe { sip_run_wants(self.spot(), wants) }
+    }
+
+    pub(crate) fn run_due(&mut self, to: &mut [u8], count: &mut usize) -> u32 {
+        unsafe { sip_run_due(self.spot(), to.as_mut_ptr(), to.len(), count) }
+    }
+
+    pub(crate) fn run_update(&mut self, updates: &[Update], taken: &mut usize) -> u32 {
+        unsafe { sip_run_update(self.spot(), updates.as_ptr(), updates.len(), taken) }
+    }
+
+    pub(crate) fn run_update_records(
+        &mut self,
+        form: u8,
+        records: &[u8],
+        taken: &mut usize,
+    ) -> u32 {
+        unsafe { sip_run_update_records(self.spot(), form, records.as_ptr(), records.len(), taken) }
+    }
+
+    pub(crate) fn run_end(&mut self) -> u32 {
+        unsafe { sip_run_end(self.spot()) }
+    }
+
+    pub(crate) fn run_ask(&mut self, asking: &mut Handle, ending: &mut EndingCode) -> u32 {
+        unsafe { sip_run_ask(self.spot(), asking.spot(), ending) }
     }
 }

@@ -2,7 +2,7 @@
 
 use sip::{
     ask, Answer, AskFault, Asking, BadUpdate, Ended, Entry, Error, Form, Part, Question, Reason,
-    SeatKind, Sketch, Unasked, Update, Value, Wants,
+    Run, RunWants, SeatKind, Sketch, Unasked, Update, Value, Wants,
 };
 use std::io::{self, Read, Write};
 
@@ -300,4 +300,51 @@ fn sketches_go_from_thread_to_thread() {
     for sketch in sketches {
         assert_eq!(sketch.join().unwrap().told().records, 103);
     }
+}
+
+#[test]
+fn a_run_is_asked_behind_its_stream() {
+    let mut run = Run::begin(&SEED, 2, &[SUB]).unwrap();
+    let mut sent = run.due();
+    assert_eq!(run.update(&[update(0, 3), update(2, 5)]), Ok(2));
+    assert_eq!(run.update(&[update(3, 1)]), Ok(1));
+    assert_eq!(
+        run.update(&[update(4, 1)]),
+        Err(Error::BadUpdate {
+            at: 0,
+            why: BadUpdate::Item
+        })
+    );
+    run.end().unwrap();
+    assert_eq!(
+        (run.wants(), run.end()),
+        (RunWants::Send, Err(Error::NotNow))
+    );
+    sent.extend(run.due());
+    assert_eq!(sent.len(), 5 + 44 + 3);
+    let mut asking = run.ask().unwrap();
+    let (mut link, mut answers) = (link(&[SHOWN, LAST]), vec![]);
+    ask(
+        &mut asking,
+        &mut link,
+        |_| panic!("a file"),
+        |answer| answers.push(answer),
+    )
+    .unwrap();
+    assert_eq!(link.sent, bytes_of(&[ASKED, REVEALED, LEFT].concat()));
+    assert_eq!(answers.len(), 1);
+}
+
+#[test]
+fn a_run_that_is_no_run_is_refused() {
+    assert_eq!(Run::begin(&SEED, 0, &[SUB]).unwrap_err(), Error::BadDepth);
+    assert_eq!(Run::begin(&SEED, 2, &[]).unwrap_err(), Error::BadLength);
+    let wide = [SUB, Question::Sub { lo: 1, hi: 4 }];
+    let refused = Error::Unasked {
+        question: 2,
+        why: Unasked::Unfit,
+    };
+    assert_eq!(Run::begin(&SEED, 2, &wide).unwrap_err(), refused);
+    let run = Run::begin(&SEED, 2, &[SUB]).unwrap();
+    assert_eq!(run.ask().unwrap_err(), Error::NotNow);
 }

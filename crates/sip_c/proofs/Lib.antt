@@ -1,7 +1,14 @@
 pub mod AsBox
+pub mod Behind
+pub mod ByForm
+pub mod Carried
 pub mod Comes
+pub mod Followed
+pub mod Going
+pub mod Handed
 pub mod Posed
 pub mod Reasons
 pub mod Recorded
 pub mod Somes
+pub mod Turned
 pub mod Weighed

@@ -13,7 +13,7 @@ use Rattle.sip_c.specs.declared.codes.UpdateCode.{UpdateCode}
 use Rattle.sip_c.specs.inside.Testing.{IsNext}
 
 -- the updates of one more
-updates_more : (codes : List UpdateCode) (k : ℕ) (d : UpdateCode) → k < length codes
+pub updates_more : (codes : List UpdateCode) (k : ℕ) (d : UpdateCode) → k < length codes
     → updates_of (take (k + 1) codes) ≡ updates_of (take k codes) ++ update_of (get_or codes k d) ∷ []
 updates_more codes k d lt = ap updates_of (take_more codes k d lt) ∙ map-append update_of (take k codes) (get_or codes k d ∷ [])
 

@@ -40,7 +40,7 @@ Absorbs part s answer t = MatchResult answer
 abbrev pub OnSketches : (SketchValues → SketchValues → Answer → SketchValues → Type 0) → Kept → Kept
     → Answer → Kept → Type 0
 OnSketches P (kept.Sketch part) old answer new = OnSketch (Unit {0}) (P part) old answer new
-OnSketches P (kept.Asking part) old answer new = (answer ≡ Err refusals.OtherHandle) × (new ≡ old)
+OnSketches P _ old answer new = (answer ≡ Err refusals.OtherHandle) × (new ≡ old)
 
 -- The part that a handle has comes to the sketch that another one has. The first handle stays as it
 -- was; where it is empty so does the other, which is an answer.

@@ -15,6 +15,7 @@ use Rattle.sip_questions.specs.declared.asker.QuestionGiven.{QuestionGiven}
 use Rattle.sip_questions.specs.declared.asker.QuestionGiven.TheVariants as givens
 use Rattle.sip_vector.specs.declared.update.Entry.{Entry}
 use Rattle.sip_c.specs.Endings.{answer_at, ending_at}
+use Rattle.sip_c.specs.Rooms.{AreHanded}
 use Rattle.sip_c.specs.Statuses.{Answer}
 use Rattle.sip_c.specs.declared.answers.AnswerCode.{AnswerCode}
 use Rattle.sip_c.specs.declared.answers.EntryCode.{EntryCode}
@@ -37,9 +38,8 @@ Then a more b =
 -- The bytes that were due are in front, and no more of them are due; or there is no room for them,
 -- and all are due as before.
 abbrev pub Due : List ℕ → List ℕ → ℕ → SketchAsking → Answer → SketchAsking → Type 0
-Due to to' count a (Ok done) b = (count ≡ length (due_of a))
-    × (to' ≡ due_of a ++ drop (length (due_of a)) to)
-    × Then a (outs (due_of a)) b × (wants_at b.step ≢ wants.Due)
+Due to to' count a (Ok done) b =
+    AreHanded (due_of a) to to' count × Then a (outs (due_of a)) b × (wants_at b.step ≢ wants.Due)
 Due to to' count a (Err refusals.NoRoom) b = (b ≡ a) × (to' ≡ to)
 Due to to' count a _ b = ⊥
 
@@ -164,9 +164,13 @@ Answers told told' a answer b = (b ≡ a)
 abbrev pub codes_of : List Entry → List EntryCode
 codes_of entries = map (λ e. record { item = e.index; value = e.value }) entries
 
--- The pairs of the answer from a place on are in front, as many as there are and there is room for.
+-- These pairs from a place on are in front, as many as there are and there is room for.
+abbrev pub AreCopied : List Entry → ℕ → List EntryCode → List EntryCode → ℕ → Type 0
+AreCopied pairs from to to' count = (count ≡ min (length to) (length pairs - from))
+    × (to' ≡ codes_of (take count (drop from pairs)) ++ drop count to)
+
+-- those of the answer
 abbrev pub Copies : ℕ → List EntryCode → List EntryCode → ℕ → ℕ → SketchAsking → Answer
     → SketchAsking → Type 0
-Copies from to to' count count' a answer b = (answer ≡ Ok tt) × (b ≡ a)
-    × (count' ≡ min (length to) (length (pairs_at a.step) - from))
-    × (to' ≡ codes_of (take count' (drop from (pairs_at a.step))) ++ drop count' to)
+Copies from to to' count count' a answer b =
+    (answer ≡ Ok tt) × (b ≡ a) × AreCopied (pairs_at a.step) from to to' count'

@@ -11,8 +11,11 @@ pub mod Questions
 pub mod Reasons
 pub mod Records
 pub mod Rooms
+pub mod RunAsking
+pub mod Runs
 pub mod Saving
 pub mod Statuses
+pub mod Talks
 pub mod Telling
 pub mod Texts
 pub mod Updating

@@ -58,11 +58,11 @@ StandsAgainst s codes told told' why =
 -- A sketch is asked by what begins in an empty handle, or that stays empty. What is none is not
 -- asked, which is an answer.
 abbrev pub PosesFrom : List QuestionCode → Ending → Ending → Kept → Answer → Option Kept → Type 0
-PosesFrom codes told told' (kept.Asking b) answer new =
-    (answer ≡ Err refusals.OtherHandle) × (new ≡ None) × (told' ≡ told)
 PosesFrom codes told told' (kept.Sketch s) answer new = MatchResult answer
     (λ _. ((a : SketchAsking) × (new ≡ Some (kept.Asking a)) × IsAsked s codes a) × (told' ≡ told))
     (λ why. (new ≡ None) × StandsAgainst s codes told told' why)
+PosesFrom codes told told' _ answer new =
+    (answer ≡ Err refusals.OtherHandle) × (new ≡ None) × (told' ≡ told)
 
 -- It is of another handle, which is empty then. Where it is not asked both stay as they were.
 abbrev pub PosesIn : List QuestionCode → Ending → Ending → Option Kept → Option Kept → Option Kept

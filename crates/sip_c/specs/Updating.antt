@@ -1,13 +1,13 @@
 -- What an update by numbers does to a sketch.
-use Rattle.std.specs.Prelude.{◌≡◌, ◌⊎◌, ℕ, true, ◌==◌, List, [], ◌++◌, MatchResult}
-use Rattle.std.specs.Prelude.{MatchOption, Option, Some, None, Ok, Err, if◌then◌else◌}
+use Rattle.std.specs.Prelude.{◌≡◌, ◌⊎◌, ℕ, true, List, [], ◌++◌, MatchResult}
+use Rattle.std.specs.Prelude.{Option, Ok, Err}
 use Rattle.std.specs.List.{AllZip}
 use Rattle.sip_vector.specs.Tallies.{joined, tally}
 use Rattle.sip_vector.specs.declared.update.Update.{Update}
 use Rattle.sip_sketch.specs.Sketches.{SketchValues}
 use Rattle.sip_sketch.specs.Standing.{IsKept, Stands}
 use Rattle.sip_c.specs.Handles.{ThroughSketch}
-use Rattle.sip_c.specs.Records.{AreRecords, codes_of}
+use Rattle.sip_c.specs.Records.{ByRecords}
 use Rattle.sip_c.specs.Statuses.{Answer}
 use Rattle.sip_c.specs.Weighing.{CanCome, IsFirstBad, Place, updates_of}
 use Rattle.sip_c.specs.declared.codes.UpdateCode.{UpdateCode}
@@ -36,20 +36,13 @@ Updates codes at at' s answer t = MatchResult answer
     (λ _. (at' ≡ at) × Comes s codes t)
     (λ why. (t ≡ s) × IsFirstBad (place_of s) codes at' why)
 
--- how many bytes the item has in a record of the form of this code
-abbrev pub width_of : ℕ → Option ℕ
-width_of form = if form == 1 then Some 4 else if form == 2 then Some 8 else None
-
 -- The updates that records of a form say come to what a handle has, as those of an array do. Where
 -- there is no such form, or the bytes are no whole records, the handle stays as it was, which is an
 -- answer.
 abbrev pub UpdatesBy : ℕ → List ℕ → ℕ → ℕ → Option Kept → Answer → Option Kept → Type 0
-UpdatesBy form bytes at at' old answer new = MatchOption (width_of form)
-    ((answer ≡ Err refusals.BadCode) × (new ≡ old) × (at' ≡ at))
-    (λ width. ((answer ≡ Err refusals.BadLength) × (new ≡ old) × (at' ≡ at)
-    × ¬ AreRecords width bytes)
-    ⊎ (AreRecords width bytes × ThroughSketch (at' ≡ at)
-    (Updates (codes_of width bytes) at at') old answer new))
+UpdatesBy form bytes at at' old answer new = ByRecords form bytes
+    (λ why. (answer ≡ Err why) × (new ≡ old) × (at' ≡ at))
+    (λ codes. ThroughSketch (at' ≡ at) (Updates codes at at') old answer new)
 
 -- the sketch stays as it was, whether there is memory for its tables or not
 abbrev pub KeepsTables : SketchValues → Answer → SketchValues → Type 0

@@ -4,6 +4,8 @@
 ghost use Rattle.std.specs.Prelude.{◌≡◌, Some};
 ghost use Rattle.sip_c.specs.Asking.{Answers, Copies, Ends, Goes, Stored, StoresTo};
 ghost use Rattle.sip_c.specs.Handles.{IsBegun, OnAsking, ThroughAsking};
+ghost use Rattle.sip_c.specs.RunAsking.{NotStored, RunAskingAnswers, RunAskingCopies};
+ghost use Rattle.sip_c.specs.RunAsking.{RunAskingEnds, RunGoes};
 ghost use Rattle.sip_c.specs.Statuses.{IsNumberOf};
 
 use crate::answers::{AnswerCode, EntryCode};
@@ -17,12 +19,14 @@ use std::alloc::Global;
 // ---- the file that is to be stored
 
 fn to_store_kept(kept: &Kept, to: &mut [u8], size: &mut usize) -> Result<(), Refusal>
-    ensures { OnAsking ((to.new ≡ to.old) × (size.new ≡ size.old)) (StoresTo to.old to.new size.old
-        size.new) kept.now result kept.now }
+    ensures { OnAsking ((to.new ≡ to.old) × (size.new ≡ size.old)) (StoresTo to.old to.new
+        size.old size.new) (NotStored ((to.new ≡ to.old) × (size.new ≡ size.old))) kept.now result
+        kept.now }
 {
     match kept {
         Kept::Asking(machine) => asker::to_store(machine, to, size),
-        Kept::Sketch(_) => Err(Refusal::OtherHandle),
+        Kept::RunAsking(_) => Err(Refusal::NotNow),
+        _ => Err(Refusal::OtherHandle),
     }
 }
 
@@ -34,8 +38,9 @@ fn to_store_in(
 ) -> Result<(), Refusal>
     requires begun { IsBegun handle.old.spot.held }
     ensures begun { IsBegun handle.new.spot.held }
-    ensures does { ThroughAsking ((to.new ≡ to.old) × (size.new ≡ size.old)) (StoresTo to.old to.new
-        size.old size.new) handle.old.spot.held result handle.new.spot.held }
+    ensures does { ThroughAsking ((to.new ≡ to.old) × (size.new ≡ size.old)) (StoresTo to.old
+        to.new size.old size.new) (NotStored ((to.new ≡ to.old) × (size.new ≡ size.old)))
+        handle.old.spot.held result handle.new.spot.held }
 {
     let Some(kept) = handle.take(alloc) else {
         return Err(Refusal::Empty);
@@ -57,8 +62,8 @@ pub extern "C" fn sip_asking_to_store(
     requires begun { IsBegun asking.old.spot.held }
     ensures begun { IsBegun asking.new.spot.held }
     ensures does { IsNumberOf result (λ did. ThroughAsking ((to.new ≡ to.old) × (size.new ≡
-        size.old)) (StoresTo to.old to.new size.old size.new)
-        asking.old.spot.held did asking.new.spot.held) }
+        size.old)) (StoresTo to.old to.new size.old size.new) (NotStored ((to.new ≡ to.old) ×
+        (size.new ≡ size.old))) asking.old.spot.held did asking.new.spot.held) }
 {
     status_of(to_store_in(alloc, asking, to, size))
 }
@@ -68,19 +73,20 @@ pub extern "C" fn sip_asking_to_store(
 fn stored_kept(kept: &mut Kept) -> Result<(), Refusal>
     requires begun { IsBegun (Some kept.old) }
     ensures begun { IsBegun (Some kept.new) }
-    ensures does { OnAsking (Unit {0}) Stored kept.old result kept.new }
+    ensures does { OnAsking (Unit {0}) Stored (NotStored (Unit {0})) kept.old result kept.new }
 {
     match kept {
         Kept::Asking(machine) => asker::stored(machine),
-        Kept::Sketch(_) => Err(Refusal::OtherHandle),
+        Kept::RunAsking(_) => Err(Refusal::NotNow),
+        _ => Err(Refusal::OtherHandle),
     }
 }
 
 fn stored_in(alloc: Global, handle: &mut Handle) -> Result<(), Refusal>
     requires begun { IsBegun handle.old.spot.held }
     ensures begun { IsBegun handle.new.spot.held }
-    ensures does { ThroughAsking (Unit {0}) Stored handle.old.spot.held result
-        handle.new.spot.held }
+    ensures does { ThroughAsking (Unit {0}) Stored (NotStored (Unit {0})) handle.old.spot.held
+        result handle.new.spot.held }
 {
     let Some(mut kept) = handle.take(alloc) else {
         return Err(Refusal::Empty);
@@ -96,34 +102,36 @@ fn stored_in(alloc: Global, handle: &mut Handle) -> Result<(), Refusal>
 pub extern "C" fn sip_asking_stored(alloc: Global, asking: &mut Handle) -> u32
     requires begun { IsBegun asking.old.spot.held }
     ensures begun { IsBegun asking.new.spot.held }
-    ensures does { IsNumberOf result (λ did. ThroughAsking (Unit {0}) Stored
-        asking.old.spot.held did asking.new.spot.held) }
+    ensures does { IsNumberOf result (λ did. ThroughAsking (Unit {0}) Stored (NotStored (Unit
+        {0})) asking.old.spot.held did asking.new.spot.held) }
 {
     status_of(stored_in(alloc, asking))
 }
 
 // ---- the next question
 
-fn next_kept(kept: &mut Kept) -> Result<(), Refusal>
+fn next_kept(alloc: Global, kept: &mut Kept) -> Result<(), Refusal>
     requires begun { IsBegun (Some kept.old) }
     ensures begun { IsBegun (Some kept.new) }
-    ensures does { OnAsking (Unit {0}) Goes kept.old result kept.new }
+    ensures does { OnAsking (Unit {0}) Goes RunGoes kept.old result kept.new }
 {
     match kept {
         Kept::Asking(machine) => asker::next(machine),
-        Kept::Sketch(_) => Err(Refusal::OtherHandle),
+        Kept::RunAsking(run) => run.next(alloc),
+        _ => Err(Refusal::OtherHandle),
     }
 }
 
 fn next_in(alloc: Global, handle: &mut Handle) -> Result<(), Refusal>
     requires begun { IsBegun handle.old.spot.held }
     ensures begun { IsBegun handle.new.spot.held }
-    ensures does { ThroughAsking (Unit {0}) Goes handle.old.spot.held result handle.new.spot.held }
+    ensures does { ThroughAsking (Unit {0}) Goes RunGoes handle.old.spot.held result
+        handle.new.spot.held }
 {
     let Some(mut kept) = handle.take(alloc) else {
         return Err(Refusal::Empty);
     };
-    let did = next_kept(&mut *kept);
+    let did = next_kept(alloc, &mut *kept);
     handle.put(alloc, kept);
     did
 }
@@ -133,7 +141,7 @@ fn next_in(alloc: Global, handle: &mut Handle) -> Result<(), Refusal>
 pub extern "C" fn sip_asking_next(alloc: Global, asking: &mut Handle) -> u32
     requires begun { IsBegun asking.old.spot.held }
     ensures begun { IsBegun asking.new.spot.held }
-    ensures does { IsNumberOf result (λ did. ThroughAsking (Unit {0}) Goes
+    ensures does { IsNumberOf result (λ did. ThroughAsking (Unit {0}) Goes RunGoes
         asking.old.spot.held did asking.new.spot.held) }
 {
     status_of(next_in(alloc, asking))
@@ -142,12 +150,13 @@ pub extern "C" fn sip_asking_next(alloc: Global, asking: &mut Handle) -> u32
 // ---- how it ended
 
 fn ended_kept(kept: &Kept, ending: &mut Ending) -> Result<(), Refusal>
-    ensures { OnAsking (ending.new ≡ ending.old) (Ends ending.old ending.new) kept.now result
-        kept.now }
+    ensures { OnAsking (ending.new ≡ ending.old) (Ends ending.old ending.new) (RunAskingEnds
+        ending.old ending.new) kept.now result kept.now }
 {
     match kept {
         Kept::Asking(machine) => asker::ended(machine, ending),
-        Kept::Sketch(_) => Err(Refusal::OtherHandle),
+        Kept::RunAsking(run) => run.ended(ending),
+        _ => Err(Refusal::OtherHandle),
     }
 }
 
@@ -155,7 +164,7 @@ fn ended_in(alloc: Global, handle: &mut Handle, ending: &mut Ending) -> Result<(
     requires begun { IsBegun handle.old.spot.held }
     ensures begun { IsBegun handle.new.spot.held }
     ensures does { ThroughAsking (ending.new ≡ ending.old) (Ends ending.old ending.new)
-        handle.old.spot.held result handle.new.spot.held }
+        (RunAskingEnds ending.old ending.new) handle.old.spot.held result handle.new.spot.held }
 {
     let Some(kept) = handle.take(alloc) else {
         return Err(Refusal::Empty);
@@ -171,8 +180,8 @@ pub extern "C" fn sip_asking_ended(alloc: Global, asking: &mut Handle, ending: &
     requires begun { IsBegun asking.old.spot.held }
     ensures begun { IsBegun asking.new.spot.held }
     ensures does { IsNumberOf result (λ did. ThroughAsking (ending.new ≡ ending.old) (Ends
-        ending.old ending.new)
-        asking.old.spot.held did asking.new.spot.held) }
+        ending.old ending.new) (RunAskingEnds ending.old ending.new) asking.old.spot.held did
+        asking.new.spot.held) }
 {
     status_of(ended_in(alloc, asking, ending))
 }
@@ -180,12 +189,13 @@ pub extern "C" fn sip_asking_ended(alloc: Global, asking: &mut Handle, ending: &
 // ---- the answer at hand
 
 fn answer_kept(kept: &Kept, answer: &mut AnswerCode) -> Result<(), Refusal>
-    ensures { OnAsking (answer.new ≡ answer.old) (Answers answer.old answer.new) kept.now result
-        kept.now }
+    ensures { OnAsking (answer.new ≡ answer.old) (Answers answer.old answer.new) (RunAskingAnswers
+        answer.old answer.new) kept.now result kept.now }
 {
     match kept {
         Kept::Asking(machine) => asker::answer(machine, answer),
-        Kept::Sketch(_) => Err(Refusal::OtherHandle),
+        Kept::RunAsking(run) => run.answer(answer),
+        _ => Err(Refusal::OtherHandle),
     }
 }
 
@@ -193,7 +203,7 @@ fn answer_in(alloc: Global, handle: &mut Handle, answer: &mut AnswerCode) -> Res
     requires begun { IsBegun handle.old.spot.held }
     ensures begun { IsBegun handle.new.spot.held }
     ensures does { ThroughAsking (answer.new ≡ answer.old) (Answers answer.old answer.new)
-        handle.old.spot.held result handle.new.spot.held }
+        (RunAskingAnswers answer.old answer.new) handle.old.spot.held result handle.new.spot.held }
 {
     let Some(kept) = handle.take(alloc) else {
         return Err(Refusal::Empty);
@@ -213,8 +223,8 @@ pub extern "C" fn sip_asking_answer(
     requires begun { IsBegun asking.old.spot.held }
     ensures begun { IsBegun asking.new.spot.held }
     ensures does { IsNumberOf result (λ did. ThroughAsking (answer.new ≡ answer.old) (Answers
-        answer.old answer.new)
-        asking.old.spot.held did asking.new.spot.held) }
+        answer.old answer.new) (RunAskingAnswers answer.old answer.new) asking.old.spot.held did
+        asking.new.spot.held) }
 {
     status_of(answer_in(alloc, asking, answer))
 }
@@ -228,11 +238,16 @@ fn pairs_kept(
     count: &mut usize,
 ) -> Result<(), Refusal>
     ensures { OnAsking ((to.new ≡ to.old) × (count.new ≡ count.old)) (Copies from to.old to.new
-        count.old count.new) kept.now result kept.now }
+        count.old count.new) (RunAskingCopies from to.old to.new count.new) kept.now result
+        kept.now }
 {
     match kept {
         Kept::Asking(machine) => asker::pairs(machine, from, to, count),
-        Kept::Sketch(_) => Err(Refusal::OtherHandle),
+        Kept::RunAsking(run) => {
+            run.pairs(from, to, count);
+            Ok(())
+        }
+        _ => Err(Refusal::OtherHandle),
     }
 }
 
@@ -246,7 +261,8 @@ fn pairs_in(
     requires begun { IsBegun handle.old.spot.held }
     ensures begun { IsBegun handle.new.spot.held }
     ensures does { ThroughAsking ((to.new ≡ to.old) × (count.new ≡ count.old)) (Copies from to.old
-        to.new count.old count.new) handle.old.spot.held result handle.new.spot.held }
+        to.new count.old count.new) (RunAskingCopies from to.old to.new count.new)
+        handle.old.spot.held result handle.new.spot.held }
 {
     let Some(kept) = handle.take(alloc) else {
         return Err(Refusal::Empty);
@@ -269,8 +285,8 @@ pub extern "C" fn sip_asking_pairs(
     requires begun { IsBegun asking.old.spot.held }
     ensures begun { IsBegun asking.new.spot.held }
     ensures does { IsNumberOf result (λ did. ThroughAsking ((to.new ≡ to.old) × (count.new ≡
-        count.old)) (Copies from to.old to.new count.old count.new)
-        asking.old.spot.held did asking.new.spot.held) }
+        count.old)) (Copies from to.old to.new count.old count.new) (RunAskingCopies from to.old
+        to.new count.new) asking.old.spot.held did asking.new.spot.held) }
 {
     status_of(pairs_in(alloc, asking, from, to, count))
 }

@@ -36,23 +36,21 @@ pub(crate) fn due(
     ensures begun { HasBegun machine.new }
     ensures due { Due to.old to.new count.new machine.old result machine.new }
 {
-    let mut out = Room::new();
     if to.len() < MOST_DUE {
         *count = MOST_DUE;
         return Err(Refusal::NoRoom);
     }
+    let mut out = Room::<MOST_DUE>::new();
     match machine.due(&mut out) {
-        Ok(()) => {}
+        Ok(()) => {
+            out.hand_out(to, count);
+            Ok(())
+        }
         Err(_) => {
             *count = MOST_DUE;
-            return Err(Refusal::NoRoom);
+            Err(Refusal::NoRoom)
         }
     }
-    let bytes = out.bytes();
-    let size = bytes.len();
-    to[..size].copy_from_slice(bytes);
-    *count = size;
-    Ok(())
 }
 
 /// Takes bytes that came, and says how many.

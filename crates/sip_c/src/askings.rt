@@ -1,13 +1,12 @@
 //! The calls by which a sketch begins to be asked, and bytes go out and come in.
 
-ghost use Rattle.std.specs.Prelude.{◌≡◌, None, Some, Ok, IfErr, OnErr, OnOk};
-ghost use Rattle.sip_ask_steps.specs.Steps.{HasBegun, wants_at};
+ghost use Rattle.std.specs.Prelude.{◌≡◌, None, Some};
 ghost use Rattle.sip_c.specs.Asking.{Closes, Due, Feeds, Wanted};
 ghost use Rattle.sip_c.specs.Handles.{IsBegun, OnAsking, ThroughAsking};
 ghost use Rattle.sip_c.specs.Posing.{PosesFrom, PosesIn};
+ghost use Rattle.sip_c.specs.RunAsking.{RunAskingCloses, RunAskingDue, RunAskingFeeds};
+ghost use Rattle.sip_c.specs.RunAsking.{RunAskingWanted};
 ghost use Rattle.sip_c.specs.Statuses.{IsNumberOf};
-ghost use Rattle.sip_c.specs.declared.kept.Kept.TheVariants as kept;
-ghost use Rattle.sip_c.specs.declared.refusal.Refusal.TheVariants as refusals;
 
 use crate::asker;
 use crate::ending::Ending;
@@ -16,24 +15,9 @@ use crate::kept::Kept;
 use crate::posing::pose;
 use crate::questions::QuestionCode;
 use crate::refusal::{Refusal, status_of};
-use sip_ask_steps::SketchAsking;
 use std::alloc::Global;
 
 // ---- begin
-
-// Gives a sketch that is asked to an empty handle.
-fn put_asking(alloc: Global, handle: &mut Handle, machine: SketchAsking) -> Result<(), Refusal>
-    requires { handle.old.spot.held ≡ None }
-    ensures given { OnOk result (handle.new.spot.held ≡ Some (kept.Asking machine)) }
-    ensures none { OnErr result (handle.new.spot.held ≡ None) }
-    ensures why { IfErr result (λ why. why ≡ refusals.NoMemory) }
-{
-    let Ok(boxed) = Box::new(alloc, Kept::Asking(machine)) else {
-        return Err(Refusal::NoMemory);
-    };
-    handle.put(alloc, boxed);
-    Ok(())
-}
 
 fn pose_from(
     alloc: Global,
@@ -48,10 +32,10 @@ fn pose_from(
 {
     match kept {
         Kept::Sketch(sketch) => match pose(alloc, sketch, codes, told) {
-            Ok(machine) => put_asking(alloc, handle, machine),
+            Ok(machine) => handle.begin(alloc, Kept::Asking(machine)),
             Err(why) => Err(why),
         },
-        Kept::Asking(_) => Err(Refusal::OtherHandle),
+        _ => Err(Refusal::OtherHandle),
     }
 }
 
@@ -113,22 +97,27 @@ pub extern "C" fn sip_asking_free(alloc: Global, asking: &mut Handle)
 // ---- what is wanted
 
 fn wants_kept(kept: &Kept, wants: &mut u8) -> Result<(), Refusal>
-    ensures { OnAsking (wants.new ≡ wants.old) (Wanted wants.new) kept.now result kept.now }
+    ensures { OnAsking (wants.new ≡ wants.old) (Wanted wants.new) (RunAskingWanted wants.new)
+        kept.now result kept.now }
 {
     match kept {
         Kept::Asking(machine) => {
             *wants = asker::wants(machine);
             Ok(())
         }
-        Kept::Sketch(_) => Err(Refusal::OtherHandle),
+        Kept::RunAsking(run) => {
+            *wants = run.wants();
+            Ok(())
+        }
+        _ => Err(Refusal::OtherHandle),
     }
 }
 
 fn wants_in(alloc: Global, handle: &mut Handle, wants: &mut u8) -> Result<(), Refusal>
     requires begun { IsBegun handle.old.spot.held }
     ensures begun { IsBegun handle.new.spot.held }
-    ensures wanted { ThroughAsking (wants.new ≡ wants.old) (Wanted wants.new)
-        handle.old.spot.held result handle.new.spot.held }
+    ensures wanted { ThroughAsking (wants.new ≡ wants.old) (Wanted wants.new) (RunAskingWanted
+        wants.new) handle.old.spot.held result handle.new.spot.held }
 {
     let Some(kept) = handle.take(alloc) else {
         return Err(Refusal::Empty);
@@ -143,8 +132,8 @@ fn wants_in(alloc: Global, handle: &mut Handle, wants: &mut u8) -> Result<(), Re
 pub extern "C" fn sip_asking_wants(alloc: Global, asking: &mut Handle, wants: &mut u8) -> u32
     requires begun { IsBegun asking.old.spot.held }
     ensures begun { IsBegun asking.new.spot.held }
-    ensures wanted { IsNumberOf result (λ answer. ThroughAsking (wants.new ≡ wants.old)
-        (Wanted wants.new) asking.old.spot.held answer asking.new.spot.held) }
+    ensures wanted { IsNumberOf result (λ answer. ThroughAsking (wants.new ≡ wants.old) (Wanted
+        wants.new) (RunAskingWanted wants.new) asking.old.spot.held answer asking.new.spot.held) }
 {
     status_of(wants_in(alloc, asking, wants))
 }
@@ -155,11 +144,12 @@ fn due_kept(kept: &mut Kept, to: &mut [u8], count: &mut usize) -> Result<(), Ref
     requires begun { IsBegun (Some kept.old) }
     ensures begun { IsBegun (Some kept.new) }
     ensures does { OnAsking ((to.new ≡ to.old) × (count.new ≡ count.old)) (Due to.old to.new
-        count.new) kept.old result kept.new }
+        count.new) (RunAskingDue to.old to.new count.new) kept.old result kept.new }
 {
     match kept {
         Kept::Asking(machine) => asker::due(machine, to, count),
-        Kept::Sketch(_) => Err(Refusal::OtherHandle),
+        Kept::RunAsking(run) => run.due(to, count),
+        _ => Err(Refusal::OtherHandle),
     }
 }
 
@@ -172,7 +162,8 @@ fn due_in(
     requires begun { IsBegun handle.old.spot.held }
     ensures begun { IsBegun handle.new.spot.held }
     ensures does { ThroughAsking ((to.new ≡ to.old) × (count.new ≡ count.old)) (Due to.old to.new
-        count.new) handle.old.spot.held result handle.new.spot.held }
+        count.new) (RunAskingDue to.old to.new count.new) handle.old.spot.held result
+        handle.new.spot.held }
 {
     let Some(mut kept) = handle.take(alloc) else {
         return Err(Refusal::Empty);
@@ -194,7 +185,7 @@ pub extern "C" fn sip_asking_due(
     requires begun { IsBegun asking.old.spot.held }
     ensures begun { IsBegun asking.new.spot.held }
     ensures does { IsNumberOf result (λ did. ThroughAsking ((to.new ≡ to.old) × (count.new ≡
-        count.old)) (Due to.old to.new count.new)
+        count.old)) (Due to.old to.new count.new) (RunAskingDue to.old to.new count.new)
         asking.old.spot.held did asking.new.spot.held) }
 {
     status_of(due_in(alloc, asking, to, count))
@@ -205,12 +196,13 @@ pub extern "C" fn sip_asking_due(
 fn feed_kept(kept: &mut Kept, bytes: &[u8], taken: &mut usize) -> Result<(), Refusal>
     requires begun { IsBegun (Some kept.old) }
     ensures begun { IsBegun (Some kept.new) }
-    ensures does { OnAsking (taken.new ≡ taken.old) (Feeds bytes.now taken.new) kept.old result
-        kept.new }
+    ensures does { OnAsking (taken.new ≡ taken.old) (Feeds bytes.now taken.new) (RunAskingFeeds
+        bytes.now taken.new) kept.old result kept.new }
 {
     match kept {
         Kept::Asking(machine) => asker::feed(machine, bytes, taken),
-        Kept::Sketch(_) => Err(Refusal::OtherHandle),
+        Kept::RunAsking(run) => run.feed(bytes, taken),
+        _ => Err(Refusal::OtherHandle),
     }
 }
 
@@ -223,7 +215,7 @@ fn feed_in(
     requires begun { IsBegun handle.old.spot.held }
     ensures begun { IsBegun handle.new.spot.held }
     ensures does { ThroughAsking (taken.new ≡ taken.old) (Feeds bytes.now taken.new)
-        handle.old.spot.held result handle.new.spot.held }
+        (RunAskingFeeds bytes.now taken.new) handle.old.spot.held result handle.new.spot.held }
 {
     let Some(mut kept) = handle.take(alloc) else {
         return Err(Refusal::Empty);
@@ -244,9 +236,9 @@ pub extern "C" fn sip_asking_feed(
 ) -> u32
     requires begun { IsBegun asking.old.spot.held }
     ensures begun { IsBegun asking.new.spot.held }
-    ensures does { IsNumberOf result (λ did. ThroughAsking (taken.new ≡ taken.old) (Feeds bytes.now
-        taken.new)
-        asking.old.spot.held did asking.new.spot.held) }
+    ensures does { IsNumberOf result (λ did. ThroughAsking (taken.new ≡ taken.old) (Feeds
+        bytes.now taken.new) (RunAskingFeeds bytes.now taken.new) asking.old.spot.held did
+        asking.new.spot.held) }
 {
     status_of(feed_in(alloc, asking, bytes, taken))
 }
@@ -256,18 +248,19 @@ pub extern "C" fn sip_asking_feed(
 fn close_kept(kept: &mut Kept) -> Result<(), Refusal>
     requires begun { IsBegun (Some kept.old) }
     ensures begun { IsBegun (Some kept.new) }
-    ensures does { OnAsking (Unit {0}) Closes kept.old result kept.new }
+    ensures does { OnAsking (Unit {0}) Closes RunAskingCloses kept.old result kept.new }
 {
     match kept {
         Kept::Asking(machine) => asker::close(machine),
-        Kept::Sketch(_) => Err(Refusal::OtherHandle),
+        Kept::RunAsking(run) => run.close(),
+        _ => Err(Refusal::OtherHandle),
     }
 }
 
 fn close_in(alloc: Global, handle: &mut Handle) -> Result<(), Refusal>
     requires begun { IsBegun handle.old.spot.held }
     ensures begun { IsBegun handle.new.spot.held }
-    ensures does { ThroughAsking (Unit {0}) Closes handle.old.spot.held result
+    ensures does { ThroughAsking (Unit {0}) Closes RunAskingCloses handle.old.spot.held result
         handle.new.spot.held }
 {
     let Some(mut kept) = handle.take(alloc) else {
@@ -283,7 +276,7 @@ fn close_in(alloc: Global, handle: &mut Handle) -> Result<(), Refusal>
 pub extern "C" fn sip_asking_close(alloc: Global, asking: &mut Handle) -> u32
     requires begun { IsBegun asking.old.spot.held }
     ensures begun { IsBegun asking.new.spot.held }
-    ensures does { IsNumberOf result (λ did. ThroughAsking (Unit {0}) Closes
+    ensures does { IsNumberOf result (λ did. ThroughAsking (Unit {0}) Closes RunAskingCloses
         asking.old.spot.held did asking.new.spot.held) }
 {
     status_of(close_in(alloc, asking))

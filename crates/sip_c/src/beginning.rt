@@ -13,7 +13,7 @@ use sip_vector::{Depth, Side};
 use std::alloc::Global;
 
 /// How many bytes a seed has.
-const SEED: usize = 32;
+pub(crate) const SEED: usize = 32;
 
 /// The most seats of a sketch.
 const MOST_SEATS: usize = 64;
@@ -49,8 +49,8 @@ fn kinds_of(codes: &[u8]) -> Option<ArrayVec<SeatKind, MOST_SEATS>>
     Some(kinds)
 }
 
-// The bytes of a seed.
-fn seed_of(bytes: &[u8]) -> [u8; SEED]
+/// The bytes of a seed.
+pub(crate) fn seed_of(bytes: &[u8]) -> [u8; SEED]
     requires { length bytes.now ≡ SEED }
     ensures { result ≡ bytes.now }
 {

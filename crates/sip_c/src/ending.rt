@@ -66,8 +66,8 @@ fn refusal_code(reason: Reason) -> u8
     }
 }
 
-// An ending of which the status says all.
-fn plain() -> Ending
+/// An ending of which the status says all.
+pub(crate) fn plain() -> Ending
     ensures { result ≡ plain }
 {
     Ending {
@@ -82,8 +82,8 @@ fn plain() -> Ending
     }
 }
 
-// An ending for a question.
-fn about(question: u8) -> Ending
+/// An ending for a question.
+pub(crate) fn about(question: u8) -> Ending
     ensures { result ≡ about question }
 {
     let mut ending = plain();
@@ -91,8 +91,8 @@ fn about(question: u8) -> Ending
     ending
 }
 
-// An ending for replies to a question.
-fn rejected(question: u8, round: u8, reason: Reason) -> Ending
+/// An ending for replies to a question.
+pub(crate) fn rejected(question: u8, round: u8, reason: Reason) -> Ending
     ensures { result ≡ rejected question round reason }
 {
     let mut ending = about(question);

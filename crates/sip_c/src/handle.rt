@@ -1,12 +1,14 @@
 //! A box that a caller of C holds by a pointer, or none.
 
 ghost use Rattle.std.specs.Prelude.{◌≡◌, Bool, true, false, Option, Some, None, is_some, IsTrue};
-ghost use Rattle.std.specs.Prelude.{MatchOption};
+ghost use Rattle.std.specs.Prelude.{IfErr, MatchOption, OnErr, OnOk};
 ghost use Rattle.sip_c.specs.declared.kept.Kept.{Kept};
 ghost use Rattle.sip_c.specs.Owned.{held_owns, held_coded};
+ghost use Rattle.sip_c.specs.declared.refusal.Refusal.TheVariants as refusals;
 
 use crate::kept::Kept;
 use crate::parts::Parts;
+use crate::refusal::Refusal;
 use std::alloc::Global;
 use std::marker::Model;
 use std::{mem, ptr};
@@ -91,6 +93,20 @@ impl Handle {
         ensures { result ≡ is_some self.now.spot.held }
     {
         self.full
+    }
+
+    /// Gives something to it, where it is empty and there is memory for it.
+    pub(crate) fn begin(&mut self, alloc: Global, kept: Kept) -> Result<(), Refusal>
+        requires { self.old.spot.held ≡ None }
+        ensures given { OnOk result (self.new.spot.held ≡ Some kept) }
+        ensures none { OnErr result (self.new.spot.held ≡ None) }
+        ensures why { IfErr result (λ why. why ≡ refusals.NoMemory) }
+    {
+        let Ok(boxed) = Box::new(alloc, kept) else {
+            return Err(Refusal::NoMemory);
+        };
+        self.put(alloc, boxed);
+        Ok(())
     }
 
     /// Gives something to it. What it had is let go.

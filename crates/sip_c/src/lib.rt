@@ -1,4 +1,4 @@
-//! The library for C: sketches behind handles, and sketches that are asked. Its header is
+//! The library for C: sketches behind handles, runs, and what is asked. Its header is
 //! `include/sip.h`.
 //!
 //! A handle is a struct that the caller gives: a pointer to a box, and whether there is one. Each
@@ -16,6 +16,10 @@
 //! - A sketch that is asked does what [`sip_ask_steps`] says of its machine: whatever the pieces,
 //!   what was handed out, taken and stored so far is what an ask did ([`askings`], [`answering`]).
 //!   That a handle has what these calls made is a condition of them, which each of them leaves.
+//! - A run sends its stream and takes its updates as [`sip_runs`] says ([`runs`]). Its questions
+//!   are asked by the same calls as those of a sketch: of each the bytes that were handed out and
+//!   taken are a talk as whoever asks over a link has it, and what is told of it is what comes of
+//!   that talk.
 //! - An empty handle, a freed one and one that is freed twice are statuses, and nothing is freed
 //!   twice. A handle may go from thread to thread.
 //!
@@ -40,6 +44,8 @@
 //! | `Posing` | how a sketch begins to be asked, and why it does not |
 //! | `Asking` | what each call does to a sketch that is asked |
 //! | `Endings`, `Reasons` | how asking ended, as numbers |
+//! | `Runs` | how a run begins, and what calls do to its stream |
+//! | `RunAsking`, `Talks` | what calls do to a run that is asked, and to the talk of one question |
 //! | `Rooms` | the bytes that went out |
 //! | `Texts` | what statuses say |
 #![tactic(auto)]
@@ -62,7 +68,11 @@ mod questions;
 mod records;
 mod refusal;
 mod room;
+mod run;
+mod run_asking;
+pub mod runs;
 pub mod sketches;
+mod talk;
 mod telling;
 mod testing;
 pub mod version;

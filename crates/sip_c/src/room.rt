@@ -1,7 +1,6 @@
-//! The bytes of a question that are due at once, which are few.
+//! The bytes that are due at once, which are few.
 
-ghost use Rattle.std.specs.Prelude.{◌≡◌, ◌≤◌, ◌<◌, ◌+◌, ◌^◌, ◌++◌, [], length, min};
-ghost use Rattle.arrayvec.specs.ArrayVec.{array_vec_len};
+ghost use Rattle.std.specs.Prelude.{◌≡◌, ◌≤◌, ◌<◌, ◌^◌, [], length};
 ghost use Rattle.sip_ports.specs.Ports.{Rose, outs};
 
 use arrayvec::ArrayVec;
@@ -11,19 +10,22 @@ use sip_stream::text::put;
 /// How many bytes of a question are due at once at most.
 pub(crate) const MOST_DUE: usize = 64;
 
+/// How many bytes of a run are due at once at most: those of a frame of 512 updates.
+pub(crate) const MOST_FRAME: usize = 8709;
+
 /// What goes out, where there is room for it: a write of more fails.
 #[derive(Drop)]
-pub(crate) struct Room {
-    bytes: ArrayVec<u8, MOST_DUE>,
+pub(crate) struct Room<const N: usize> {
+    bytes: ArrayVec<u8, N>,
     faults: u64,
     ghost fits: { faults < 2 ^ 64 },
 }
 
-impl Room {
-    ghost use Rattle.sip_c.specs.Rooms.{bytes_in};
+impl<const N: usize> Room<N> {
+    ghost use Rattle.sip_c.specs.Rooms.{AreHanded, bytes_in};
 
     /// With nothing in it.
-    pub(crate) fn new() -> Room
+    pub(crate) fn new() -> Room<N>
         ensures { bytes_in result ≡ [] }
     {
         Room {
@@ -32,12 +34,16 @@ impl Room {
         }
     }
 
-    /// What went out.
-    pub(crate) fn bytes(&self) -> &[u8]
-        ensures same { result.now ≡ bytes_in self.now }
-        ensures most { length result.now ≤ MOST_DUE }
+    /// Puts what went out in front of a buffer, and tells how many bytes that is.
+    pub(crate) fn hand_out(&self, to: &mut [u8], count: &mut usize)
+        requires { N ≤ length to.old }
+        ensures { AreHanded (bytes_in self.now) to.old to.new count.new }
     {
-        &self.bytes
+        let bytes: &[u8] = &self.bytes;
+        let size = bytes.len();
+        prove!(size <= N);
+        to[..size].copy_from_slice(bytes);
+        *count = size;
     }
 
     // A call failed.
@@ -52,7 +58,7 @@ impl Room {
     }
 }
 
-impl Sink for Room {
+impl<const N: usize> Sink for Room<N> {
     ghost use Rattle.std.specs.Prelude.{Some};
     ghost use Rattle.std.proofs.Common.{rules};
     ghost use Rattle.sip_ports.specs.Ports.{outs};
@@ -73,7 +79,7 @@ impl Sink for Room {
     ghost sure_counts = { λ _ sure. absurd sure };
 
     fn write(&mut self, buf: &[u8]) -> Result<usize, PortStop> {
-        if buf.len() > MOST_DUE - self.bytes.len() {
+        if buf.len() > N - self.bytes.len() {
             return Err(self.failed());
         }
         put(&mut self.bytes, buf);
@@ -81,7 +87,7 @@ impl Sink for Room {
     }
 }
 
-impl Link for Room {
+impl<const N: usize> Link for Room<N> {
     // Nothing comes in.
     fn recv(&mut self, _buf: &mut [u8]) -> Result<usize, PortStop> {
         Err(self.failed())

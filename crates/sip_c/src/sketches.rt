@@ -1,6 +1,6 @@
 //! The calls on sketches.
 
-ghost use Rattle.std.specs.Prelude.{◌≡◌, None, Some, IfErr, OnErr, OnOk};
+ghost use Rattle.std.specs.Prelude.{◌≡◌, None};
 ghost use Rattle.sip_c.specs.Absorbing.{Absorbs, AbsorbsIn, OnSketches};
 ghost use Rattle.sip_c.specs.Beginning.{Begun, StandsAgainst, Wanted};
 ghost use Rattle.sip_c.specs.Handles.{BeginsSketch, OnSketch, Through, ThroughSketch};
@@ -8,9 +8,7 @@ ghost use Rattle.sip_c.specs.Loading.{IsLoaded, IsNone};
 ghost use Rattle.sip_c.specs.Saving.{Saves};
 ghost use Rattle.sip_c.specs.Statuses.{IsNumberOf};
 ghost use Rattle.sip_c.specs.Telling.{Tells, TellsSeat};
-ghost use Rattle.sip_c.specs.Updating.{KeepsTables, Updates, UpdatesBy, width_of};
-ghost use Rattle.sip_c.specs.declared.kept.Kept.TheVariants as kept;
-ghost use Rattle.sip_c.specs.declared.refusal.Refusal.TheVariants as refusals;
+ghost use Rattle.sip_c.specs.Updating.{KeepsTables, Updates, UpdatesBy};
 
 use crate::absorbing::absorb;
 use crate::adding::update;
@@ -19,27 +17,12 @@ use crate::codes::{CodeList, Codes, UpdateCode};
 use crate::handle::Handle;
 use crate::kept::Kept;
 use crate::loading::{load, save};
-use crate::records::{NARROW, Records, WIDE, size_of};
+use crate::records::records_of;
 use crate::refusal::{Refusal, status_of};
 use crate::telling::{SketchTold, tell_seat, told_of};
-use sip_sketch::Sketch;
 use std::alloc::Global;
 
 // ---- begin and load
-
-// Gives a sketch to an empty handle.
-fn put_sketch(alloc: Global, handle: &mut Handle, sketch: Sketch) -> Result<(), Refusal>
-    requires { handle.old.spot.held ≡ None }
-    ensures given { OnOk result (handle.new.spot.held ≡ Some (kept.Sketch sketch)) }
-    ensures none { OnErr result (handle.new.spot.held ≡ None) }
-    ensures why { IfErr result (λ why. why ≡ refusals.NoMemory) }
-{
-    let Ok(boxed) = Box::new(alloc, Kept::Sketch(sketch)) else {
-        return Err(Refusal::NoMemory);
-    };
-    handle.put(alloc, boxed);
-    Ok(())
-}
 
 fn begin_in(
     alloc: Global,
@@ -63,7 +46,7 @@ fn begin_in(
         return Err(Refusal::Full);
     }
     let sketch = begin(alloc, seed, depth, part, parts, kinds)?;
-    put_sketch(alloc, handle, sketch)
+    handle.begin(alloc, Kept::Sketch(sketch))
 }
 
 /// Begins the sketch of the empty stream in an empty handle: a seat of each of the kinds that these
@@ -104,7 +87,7 @@ fn load_in(
         return Err(Refusal::Full);
     }
     let sketch = load(alloc, bytes, offset)?;
-    put_sketch(alloc, handle, sketch)
+    handle.begin(alloc, Kept::Sketch(sketch))
 }
 
 /// Loads the sketch of these bytes into an empty handle; or tells the offset of their first fault.
@@ -130,7 +113,7 @@ fn save_kept(alloc: Global, kept: &Kept, to: &mut [u8], size: &mut usize) -> Res
 {
     match kept {
         Kept::Sketch(sketch) => save(alloc, sketch, to, size),
-        Kept::Asking(_) => Err(Refusal::OtherHandle),
+        _ => Err(Refusal::OtherHandle),
     }
 }
 
@@ -176,7 +159,7 @@ fn update_kept<C: Codes>(kept: &mut Kept, codes: &C, at: &mut usize) -> Result<(
 {
     match kept {
         Kept::Sketch(sketch) => update(sketch, codes, at),
-        Kept::Asking(_) => Err(Refusal::OtherHandle),
+        _ => Err(Refusal::OtherHandle),
     }
 }
 
@@ -213,17 +196,6 @@ pub extern "C" fn sip_sketch_update(
     status_of(update_in(alloc, sketch, &codes, at))
 }
 
-// How many bytes the item has in a record of the form of this code.
-fn width_of(form: u8) -> Option<usize>
-    ensures { result ≡ width_of form }
-{
-    match form {
-        1 => Some(NARROW),
-        2 => Some(WIDE),
-        _ => None,
-    }
-}
-
 fn update_by_records(
     alloc: Global,
     handle: &mut Handle,
@@ -234,13 +206,7 @@ fn update_by_records(
     ensures { UpdatesBy form bytes.now at.old at.new handle.old.spot.held result
         handle.new.spot.held }
 {
-    let Some(width) = width_of(form) else {
-        return Err(Refusal::BadCode);
-    };
-    if bytes.len() % size_of(width) != 0 {
-        return Err(Refusal::BadLength);
-    }
-    let records = Records { width, bytes };
+    let records = records_of(form, bytes)?;
     update_in(alloc, handle, &records, at)
 }
 
@@ -270,7 +236,7 @@ fn keep_tables_kept(alloc: Global, kept: &mut Kept) -> Result<(), Refusal>
             Ok(()) => Ok(()),
             Err(_) => Err(Refusal::NoMemory),
         },
-        Kept::Asking(_) => Err(Refusal::OtherHandle),
+        _ => Err(Refusal::OtherHandle),
     }
 }
 
@@ -342,7 +308,6 @@ pub extern "C" fn sip_sketch_absorb(alloc: Global, sketch: &mut Handle, part: &m
 }
 
 // ---- what is told
-// ---- what is told
 
 fn tell_kept(kept: &Kept, told: &mut SketchTold) -> Result<(), Refusal>
     ensures { OnSketch (told.new ≡ told.old) (Tells told.new) kept.now result kept.now }
@@ -352,7 +317,7 @@ fn tell_kept(kept: &Kept, told: &mut SketchTold) -> Result<(), Refusal>
             *told = told_of(sketch);
             Ok(())
         }
-        Kept::Asking(_) => Err(Refusal::OtherHandle),
+        _ => Err(Refusal::OtherHandle),
     }
 }
 
@@ -389,7 +354,7 @@ fn tell_seat_kept(
 {
     match kept {
         Kept::Sketch(sketch) => tell_seat(sketch, place, kind, is_used),
-        Kept::Asking(_) => Err(Refusal::OtherHandle),
+        _ => Err(Refusal::OtherHandle),
     }
 }
 
