@@ -26,7 +26,8 @@ _sip_kinds() {
 _sip_commands='verify play panel help lookup helplook moments helpmom audit show convert gen lines widen
     begin watch merge seats ask serve --help -h --progress --version -V'
 _sip_queries='sub: range:0: range:1: f2:0 f2:1 inner heavy:0: heavy:1: share:0: share:1:'
-_sip_seats='entries: sums:0: sums:1: products: heavy:0: heavy:1:'
+_sip_seats='entries: sums:0: sums:1: products: heavy:0: heavy:1: above:0: above:1:'
+_sip_larges='above:0: above:1:'
 _sip_lookups='index: pred: succ:'
 _sip_moments='moment:0:3 moment:0:4 moment:0:5 moment:0:6 moment:0:7 moment:0:8
     moment:1:3 moment:1:4 moment:1:5 moment:1:6 moment:1:7 moment:1:8'
@@ -43,7 +44,7 @@ _sip_candidates() {
         at) compgen -W '0 +' -- "$word" ;;
         lookup) compgen -W "$_sip_lookups" -- "$word" ;;
         moment) compgen -W "$_sip_moments" -- "$word" ;;
-        question) compgen -W "$_sip_queries $_sip_lookups $_sip_moments" -- "$word" ;;
+        question) compgen -W "$_sip_queries $_sip_larges $_sip_lookups $_sip_moments" -- "$word" ;;
         record)
             compgen -W - -- "$word"
             compgen -f -- "$word"

@@ -82,7 +82,7 @@ function __sip_candidates
         case seats
             printf '%s\n' entries:\t'N, for sub, index, pred and succ' \
                 sums:{0,1}:\t'N, for range, f2 and moment' products:\t'N, for inner' \
-                heavy:{0,1}:\t'N, for heavy and share'
+                heavy:{0,1}:\t'N, for heavy and share' above:{0,1}:\t'N, for above'
         case record
             printf '%s\n' -\t'no record'
             __fish_complete_path $word
@@ -94,7 +94,7 @@ function __sip_candidates
         case depth
             seq 48
         case question
-            for asked in query lookup moment
+            for asked in query large lookup moment
                 __sip_asked $asked
             end
         case query lookup moment
@@ -102,7 +102,7 @@ function __sip_candidates
     end
 end
 
-# What may ask a query, a lookup or a moment.
+# What may ask a query, large entries, a lookup or a moment.
 function __sip_asked
     switch $argv[1]
         case query
@@ -111,6 +111,8 @@ function __sip_asked
                 f2:{0,1}\t'the sum of the squares' inner\t'the sum of the products' \
                 heavy:{0,1}:\t'T, the entries of T or more' \
                 share:{0,1}:\t'NUM:DEN, the entries of such a part'
+        case large
+            printf '%s\n' above:{0,1}:\t'T, the entries of T or more, whatever was added'
         case lookup
             printf '%s\n' index:\t'I, the entry there' \
                 pred:\t'I, the nearest entry there or below' \

@@ -66,7 +66,7 @@ typedef enum sip_status {
     SIP_NOT_NEXT = 35,    /* the part's first part is not the one behind the sketch's last */
     SIP_NOT_WHOLE = 40,   /* not all parts of the stream are in the sketch */
     SIP_UNFIT = 41,       /* a question does not fit the depth */
-    SIP_SIGNED = 42,      /* a question is for large entries of a side that had a delta below 0 */
+    SIP_SIGNED = 42,      /* a question is for heavy hitters of a side that had a delta below 0 */
     SIP_NO_SEAT = 43,     /* no unused seat serves a question */
     SIP_TOO_WIDE = 44,    /* an answer may have more entries than a reply has room for */
     SIP_TOO_HIGH = 45,    /* a moment may be greater than a claim */
@@ -101,7 +101,9 @@ typedef enum sip_seat_kind {
     SIP_SUMS_1 = 3,  /* the same of side 1 */
     SIP_PRODUCTS = 4, /* inner products of the sides */
     SIP_HEAVY_0 = 5, /* heavy hitters of side 0 */
-    SIP_HEAVY_1 = 6  /* heavy hitters of side 1 */
+    SIP_HEAVY_1 = 6, /* heavy hitters of side 1 */
+    SIP_ABOVE_0 = 7, /* large entries of side 0, also where others are below 0 */
+    SIP_ABOVE_1 = 8  /* large entries of side 1 */
 } sip_seat_kind;
 
 /* How records lie as bytes: the side in one, the item in four or eight and the delta in eight, each
@@ -160,8 +162,8 @@ sip_status sip_sketch_load(sip_sketch *sketch, const uint8_t *bytes, size_t leng
 sip_status sip_sketch_save(sip_sketch *sketch, uint8_t *to, size_t room, size_t *size);
 
 /* Keeps tables of the challenges of each unused seat, by which updates are added faster from now on:
-   2 KiB for a seat and eight levels, 4 for heavy hitters, till the sketch is freed. They are not
-   saved. SIP_EMPTY; SIP_NO_MEMORY. */
+   2 KiB for a seat and eight levels, 4 for heavy hitters, none for large entries, till the sketch is
+   freed. They are not saved. SIP_EMPTY; SIP_NO_MEMORY. */
 sip_status sip_sketch_keep_tables(sip_sketch *sketch);
 
 /* Adds updates, in any number: all of them, or none.
@@ -206,7 +208,9 @@ typedef enum sip_question_kind {
     SIP_INDEX = 7,   /* the value of side 0 at item lo */
     SIP_PRED = 8,    /* the nearest entry of side 0 that is not 0, at item lo or below */
     SIP_SUCC = 9,    /* the same at item lo or above */
-    SIP_MOMENT = 10  /* the sum of the power lo, 3 to 8, of the entries of the side */
+    SIP_MOMENT = 10, /* the sum of the power lo, 3 to 8, of the entries of the side */
+    SIP_ABOVE = 11   /* the entries of the side of at least lo, 1 to 2^63 - 1, whatever was added to
+                        others: pairs */
 } sip_question_kind;
 
 #define SIP_MOST_QUESTIONS 16

@@ -14,7 +14,7 @@ from .stores import Link
 from .words import ASKS
 
 # The kinds of seat that serve a question, by its kind and its side.
-ENTRIES, SUMS, PRODUCTS, HEAVY = 1, 2, 4, 5
+ENTRIES, SUMS, PRODUCTS, HEAVY, ABOVE = 1, 2, 4, 5, 7
 
 
 class Told(NamedTuple):
@@ -30,8 +30,8 @@ class Told(NamedTuple):
 class OfSeat:
     """What a seat keeps, for the question that it serves."""
 
-    def __init__(self, seat):
-        self.seat = seat
+    def __init__(self, seat, weights):
+        self.seat, self.weights = seat, weights
 
     def root(self):
         return self.seat.first
@@ -42,12 +42,17 @@ class OfSeat:
     def root_counted(self, side):
         return self.seat.first, self.seat.second - WEIGHT
 
+    def root_weighed(self, side):
+        return self.seat.first, self.weights[side]
+
 
 def kind_of(question):
     if question.kind == "sub" or question.kind in LOOKUPS:
         return ENTRIES
     if question.kind == "inner":
         return PRODUCTS
+    if question.kind == "above":
+        return ABOVE + question.side
     return (HEAVY if question.counts() else SUMS) + question.side
 
 
@@ -181,7 +186,8 @@ class Ask:
         self.mark(place)
         data = self.heard()
         judged = verdict_by(
-            OfSeat(seat), question, self.sketch.depth, seat.block, data, self.at, self.version
+            OfSeat(seat, self.sketch.weights),
+            question, self.sketch.depth, seat.block, data, self.at, self.version,
         )
         # A message leaves before the reply to it is taken, and behind the reply before.
         for message, end in zip(judged.asked, [*judged.ends, len(data)]):

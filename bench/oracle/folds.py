@@ -51,6 +51,16 @@ def root_counted(vector, challenges):
     return folded(leaves_counted(vector), up_counted, challenges).get(0, (0, 0))
 
 
+def leaves_weighed(vector):
+    """Those of a tree with weights, whose nodes are (hash, weight)."""
+    weights = vector.weights.items()
+    return {item: (vector.entries.get(item, 0) % P, weight) for item, weight in weights}
+
+
+def root_weighed(vector, challenges):
+    return folded(leaves_weighed(vector), up_counted, challenges).get(0, (0, 0))
+
+
 def extension(vector, challenges):
     return folded(vector.entries, line, challenges).get(0, 0) % P
 

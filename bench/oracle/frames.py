@@ -1,7 +1,7 @@
 """Messages, the frames that spell them, and the first fault of bytes that spell none.
 
-A message is a tuple of its name and its fields; Updates, Entries, Leaves and Nodes have one field,
-a list of rows."""
+A message is a tuple of its name and its fields; Updates, Entries, Leaves, Nodes and Marks have one
+field, a list of rows."""
 
 from .field import HALF, P
 from .questions import Question
@@ -11,7 +11,7 @@ KINDS = {
     0x11: "Claim", 0x12: "Poly", 0x13: "Entries", 0x14: "Siblings", 0x15: "Leaves", 0x16: "Nodes",
     0x17: "LevelEnd", 0x18: "Refuse",
     0x21: "AskLook", 0x22: "Found", 0x23: "End", 0x24: "AskMoment", 0x25: "Power",
-    0x26: "Held", 0x27: "Recall",
+    0x26: "Held", 0x27: "Recall", 0x28: "Marks",
 }  # fmt: skip
 CODES = {name: code for code, name in KINDS.items()}
 
@@ -34,9 +34,10 @@ PLACES = {
     },
     "Held": {"Held"},
     "Power": {"Power", "Refuse"},
+    "Marks": {"Marks", "LevelEnd", "Refuse"},
 }
 
-# The kinds of query by their codes. The last one is not built: it has a spelling, and no answer.
+# The kinds of query by their codes. The last one is asked of a store alone.
 QUERIES = {1: "sub", 2: "range", 3: "f2", 4: "inner", 5: "heavy", 6: "share", 7: "above"}
 
 # The bytes of an item, by the version.
@@ -49,6 +50,7 @@ ROWS = {
     "Entries": (("item", "signed"), 512),
     "Leaves": (("item", "whole"), 512),
     "Nodes": (("item", "whole", "whole"), 256),
+    "Marks": (("item", "signed", "whole"), 256),
 }
 
 # The bytes of each number of a message that is a few numbers. A Power has one element more than its
@@ -239,6 +241,8 @@ def has_numbers(message):
         return all(count < P for _, count in fields[0])
     if name == "Nodes":
         return all(hash_ < P and count < P for _, hash_, count in fields[0])
+    if name == "Marks":
+        return all(abs(value) <= min(weight, HALF) and weight < P for _, value, weight in fields[0])
     if name == "Refuse":
         return 1 <= fields[0] <= 4
     if name == "Found":

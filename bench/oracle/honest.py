@@ -13,7 +13,7 @@ def replies(question, both, depth, challenges):
     if code:
         return iter([[("Refuse", code)]])
     kinds = {
-        "sub": entries, "heavy": counted, "share": counted, "moment": powers,
+        "sub": entries, "heavy": counted, "share": counted, "above": marked, "moment": powers,
         "index": looked, "pred": looked, "succ": looked,
     }  # fmt: skip
     return kinds.get(question.kind, sums)(question, both, depth, challenges)
@@ -115,22 +115,36 @@ def polynomial(first, second):
 def counted(question, both, depth, challenges):
     """Those to a threshold: the children of each node of at least so much, and above the leaves the
     light ones alone."""
-    threshold = question.threshold(both)
-    entries_ = both[question.side].entries
-    level = folds.leaves_counted(both[question.side])
+    side = both[question.side]
+    leaves = "Leaves", 512, lambda item, count: (item, count)
+    level = folds.leaves_counted(side)
+    return shown(question.threshold(both), side.entries, level, depth, challenges, leaves)
+
+
+def marked(question, both, depth, challenges):
+    """The same by the weights of a side; a leaf has its entry beside its weight."""
+    side = both[question.side]
+    marks = "Marks", 256, lambda item, weight: (item, side.entries.get(item, 0), weight)
+    level = folds.leaves_weighed(side)
+    return shown(question.threshold(both), side.weights, level, depth, challenges, marks)
+
+
+def shown(threshold, counts, level, depth, challenges, leaves):
+    """Of each level what is shown, by the frames of the leaves, how many a frame has, and a row."""
+    lowest, most, leaf = leaves
     for j in range(depth):
         if j > 0:
             level = folds.up_counted(level, challenges[j - 1])
         rows = []
-        for parent in heavy_nodes(entries_, j + 1, threshold):
+        for parent in heavy_nodes(counts, j + 1, threshold):
             for child in (2 * parent, 2 * parent + 1):
                 hash_, count = level.get(child, (0, 0))
                 if j == 0:
-                    rows.append((child, count))
+                    rows.append(leaf(child, count))
                 elif count < threshold:
                     rows.append((child, hash_, count))
-        name, most = ("Leaves", 512) if j == 0 else ("Nodes", 256)
-        yield [(name, part) for part in cut(rows, most)] + [("LevelEnd",)]
+        name, size = (lowest, most) if j == 0 else ("Nodes", 256)
+        yield [(name, part) for part in cut(rows, size)] + [("LevelEnd",)]
 
 
 def heavy_nodes(entries_, level, threshold):

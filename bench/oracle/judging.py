@@ -60,6 +60,9 @@ class OfVectors:
     def root_counted(self, side):
         return folds.root_counted(self.both[side], self.challenges)
 
+    def root_weighed(self, side):
+        return folds.root_weighed(self.both[side], self.challenges)
+
 
 def verdict(question, both, depth, challenges, data, at, version):
     """By whole vectors."""
@@ -73,7 +76,8 @@ def verdict_by(kept, question, depth, challenges, data, at, version):
     if question.kind in LOOKUPS:
         return looked(kept, question, depth, challenges, data, at, version)
     link = Link(data, at, version)
-    kinds = {"sub": Entries, "heavy": Counted, "share": Counted, "moment": Powers}
+    kinds = {"sub": Entries, "heavy": Counted, "share": Counted}
+    kinds |= {"above": Marked, "moment": Powers}
     check = kinds.get(question.kind, Sums)(question, kept, depth, challenges)
     asked, ends, said, reason = [], [], None, None
     try:
@@ -191,31 +195,40 @@ class Powers(Sums):
 class Counted:
     """Entries of at least a threshold."""
 
+    lowest = "Leaves"
+
     def __init__(self, question, kept, depth, challenges):
         self.depth, self.challenges = depth, challenges
-        self.root = kept.root_counted(question.side)
+        self.root = self.root_of(kept, question.side)
         self.total = self.root[1]
         self.threshold = question.threshold_of(self.total)
         self.most = 2 * (self.total // self.threshold)
         self.known = {}
         self.leaves = []
 
+    def root_of(self, kept, side):
+        return kept.root_counted(side)
+
+    def leaf(self, index, count):
+        """The node that a leaf is, and its entry."""
+        return (count % P, count), count
+
     def reply(self, j, link):
-        received, last = {}, -1
-        place = "Leaves" if j == 0 else "Nodes"
+        received, entries, last = {}, [], -1
+        place = self.lowest if j == 0 else "Nodes"
         message = link.take(place)
         while message[0] != "LevelEnd":
-            for index, *hash_, count in message[1]:
+            for index, *fields in message[1]:
+                count = fields[-1]
                 need(last < index < 2 ** (self.depth - j) and index not in self.known, "BadOrder")
                 need(len(self.known) + len(received) + 1 <= self.most, "TooMany")
                 need(j == 0 or count < self.threshold, "HeavySibling")
-                received[index] = (hash_[0] if hash_ else count % P, count)
+                received[index], entry = self.leaf(index, *fields) if j == 0 else (fields, None)
+                entries.append((index, entry))
                 last = index
             message = link.take(place)
         if j == 0:
-            self.leaves = [
-                (item, count) for item, (_, count) in received.items() if count >= self.threshold
-            ]
+            self.leaves = [(item, entry) for item, entry in entries if entry >= self.threshold]
         self.level_end(j, {**self.known, **received})
 
     def level_end(self, j, nodes):
@@ -232,3 +245,15 @@ class Counted:
 
     def said(self):
         return self.leaves
+
+
+class Marked(Counted):
+    """Those of any side, by its weights."""
+
+    lowest = "Marks"
+
+    def root_of(self, kept, side):
+        return kept.root_weighed(side)
+
+    def leaf(self, index, entry, weight):
+        return (entry % P, weight), entry

@@ -1,4 +1,5 @@
-"""The six kinds of query, the three lookups and the moments, and what is answered to them."""
+"""The six kinds of query, the three lookups, the moments and the large entries of any side, and what
+is answered to them."""
 
 from typing import NamedTuple
 
@@ -7,9 +8,12 @@ from .field import HALF, WIDEST
 # The kinds of lookup; their codes are 1, 2 and 3.
 LOOKUPS = ("index", "pred", "succ")
 
+# The kinds that version 2 alone has.
+NEW = ("share", "above")
+
 
 class Question(NamedTuple):
-    """A query, a lookup or a moment. A kind leaves alone the numbers that it doesn't have."""
+    """A question. A kind leaves alone the numbers that it doesn't have."""
 
     kind: str
     side: int = 0
@@ -31,10 +35,11 @@ class Question(NamedTuple):
             "heavy": f"heavy:{self.side}:{self.at_least}",
             "share": f"share:{self.side}:{self.num}:{self.den}",
             "moment": f"moment:{self.side}:{self.degree}",
+            "above": f"above:{self.side}:{self.at_least}",
         }.get(self.kind, f"{self.kind}:{self.item}")
 
     def is_built(self):
-        """Whether it can be asked: the large entries of any stream have a spelling alone."""
+        """Whether every helper answers it: large entries of any side are asked of a store alone."""
         return self.kind != "above"
 
     def message(self):
@@ -49,21 +54,29 @@ class Question(NamedTuple):
         """Whether it asks for the entries of at least a threshold."""
         return self.kind in ("heavy", "share")
 
+    def measure(self, both):
+        """What a threshold is of: the total of the side, or its weight."""
+        side = both[self.side]
+        return side.weight if self.kind == "above" else side.total
+
+    def has_threshold(self):
+        return self.counts() or self.kind == "above"
+
     def threshold(self, both):
-        return self.threshold_of(both[self.side].total)
+        return self.threshold_of(self.measure(both))
 
     def threshold_of(self, total):
-        if self.kind == "heavy":
+        if self.kind in ("heavy", "above"):
             return self.at_least
         return -(-self.num * total // self.den) if total >= 1 else 1
 
     def is_asked(self, both):
-        return not self.counts() or both[self.side].total >= self.threshold(both)
+        return not self.has_threshold() or self.measure(both) >= self.threshold(both)
 
     def is_too_wide(self, both):
-        if not self.counts() or not self.is_asked(both):
+        if not self.has_threshold() or not self.is_asked(both):
             return False
-        return both[self.side].total // self.threshold(both) > WIDEST
+        return self.measure(both) // self.threshold(both) > WIDEST
 
     def is_too_high(self, both):
         return self.kind == "moment" and both[self.side].weight**self.degree > HALF
@@ -112,7 +125,7 @@ class Question(NamedTuple):
             return sum(value * value for value in mine.values())
         if self.kind == "inner":
             return sum(value * other.get(item, 0) for item, value in both[0].entries.items())
-        if self.kind == "heavy":
+        if self.kind in ("heavy", "above"):
             return [(item, value) for item, value in mine.items() if value >= self.at_least]
         if self.kind == "index":
             return mine.get(self.item, 0)
@@ -131,7 +144,7 @@ class Question(NamedTuple):
         """The code that an honest helper with memory refuses it by, or None."""
         if self.counts() and not both[self.side].is_strict:
             return 3
-        if self.counts() and both[self.side].total // self.threshold(both) > WIDEST:
+        if self.has_threshold() and self.measure(both) // self.threshold(both) > WIDEST:
             return 2
         if self.kind == "sub" and len(self.answer(both)) > WIDEST:
             return 2
@@ -149,4 +162,4 @@ def rejection(query, round_, reason):
 
 
 def version_needed(depth, questions):
-    return 2 if depth > 32 or any(question.kind == "share" for question in questions) else 1
+    return 2 if depth > 32 or any(question.kind in NEW for question in questions) else 1

@@ -6,7 +6,7 @@ from typing import NamedTuple
 
 from .chacha import challenges
 from .field import P, WEIGHT
-from .folds import extension, root, root_counted
+from .folds import extension, root, root_counted, root_weighed
 from .streams import vectors
 
 MAGIC = b"SIPK"
@@ -14,7 +14,8 @@ DEEPEST, MOST_SEATS, MOST_PARTS, TOP = 48, 64, 2**32 - 1, 2**64 - 1
 
 # The kinds of seats, by the words that begin them.
 KINDS = {1: "entries", 2: "sums:0", 3: "sums:1", 4: "products", 5: "heavy:0", 6: "heavy:1"}
-ROOT, SUMS, PRODUCTS, COUNTED = (1,), (2, 3), (4,), (5, 6)
+KINDS |= {7: "above:0", 8: "above:1"}
+ROOT, SUMS, PRODUCTS, COUNTED, WEIGHED = (1,), (2, 3), (4,), (5, 6), (7, 8)
 
 
 class Bad(Exception):
@@ -72,6 +73,8 @@ def numbers(kind, block, both):
         return extension(both[kind - SUMS[0]], block), 0
     if kind in PRODUCTS:
         return extension(both[0], block), extension(both[1], block)
+    if kind in WEIGHED:
+        return root_weighed(both[kind - WEIGHED[0]], block)[0], 0
     hash_, total = root_counted(both[kind - COUNTED[0]], block)
     return hash_, total + WEIGHT
 

@@ -31,6 +31,9 @@ class StoreTalk(QuestionTalk):
         held = len(self.updates), *(side.weight for side in self.both), fingerprint(self.updates)
         return [("Held", *held)]
 
+    def answers(self, question):
+        return True
+
     def front(self, count):
         """So many records, or all where there are fewer. None is read where none is asked for."""
         store = self.store(self.depth) if count else ([], None)

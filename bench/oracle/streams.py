@@ -96,14 +96,16 @@ def made_form(depth):
 
 
 class Vector:
-    """What one side's deltas add up to; entries that are not 0 alone."""
+    """What one side's deltas add up to, entries that are not 0 alone, and what their sizes do."""
 
     def __init__(self, updates, side):
-        entries, self.weight = {}, 0
+        entries, weights, self.weight = {}, {}, 0
         for of, item, delta in updates:
             if of == side:
                 entries[item] = entries.get(item, 0) + delta
+                weights[item] = weights.get(item, 0) + abs(delta)
                 self.weight += abs(delta)
+        self.weights = dict(sorted(weights.items()))
         self.entries = {item: value for item, value in sorted(entries.items()) if value != 0}
         self.total = sum(entries.values())
         self.is_strict = all(value > 0 for value in self.entries.values())

@@ -78,12 +78,15 @@ class Talk:
         return []
 
     def hear_query(self, question):
-        if not self.both or self.open or self.queries == QUERIES or not question.is_built():
+        if not self.both or self.open or self.queries == QUERIES or not self.answers(question):
             return None
         if question.kind in ("sub", "range") and question.hi >= 2**self.depth:
             return None
         self.queries += 1
         return self.begin(question)
+
+    def answers(self, question):
+        return question.is_built()
 
     def hear_reveal(self, challenge):
         if not self.open or len(self.revealed) == self.depth - 1:

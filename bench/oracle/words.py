@@ -84,7 +84,7 @@ def stream(word):
 
 
 def question(shape, word, depth):
-    """A query, a lookup or a moment that fits the depth; None where the word is none."""
+    """A question of this shape that fits the depth; None where the word is none."""
     kind, *fields = word.split(":")
     last, most = 2**depth - 1, 2**63 - 1
     limits = {
@@ -98,6 +98,7 @@ def question(shape, word, depth):
         },
         "lookups": {lookup: ((0, last),) for lookup in LOOKUPS},
         "moments": {"moment": ((0, 1), (3, 8))},
+        "larges": {"above": ((0, 1), (1, most))},
     }[shape].get(kind)
     if limits is None or len(limits) != len(fields):
         return None
@@ -106,7 +107,7 @@ def question(shape, word, depth):
         return None
     if kind == "sub":
         return Question(kind, 0, *numbers)
-    if kind == "heavy":
+    if kind in ("heavy", "above"):
         return Question(kind, numbers[0], at_least=numbers[1])
     if kind == "share":
         return Question(kind, numbers[0], num=numbers[1], den=numbers[2])
@@ -119,7 +120,8 @@ def question(shape, word, depth):
 
 def any_question(word):
     """A question of every kind that fits the greatest depth; None where the word is none."""
-    return next(filter(None, (question(shape, word, DEEPEST) for shape in ASKED)), None)
+    shapes = (*ASKED, "larges")
+    return next(filter(None, (question(shape, word, DEEPEST) for shape in shapes)), None)
 
 
 def seats(word, before):

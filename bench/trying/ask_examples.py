@@ -136,6 +136,12 @@ def check_seats():
     ask(it, "ask k a b share:0:1:2", "sip: query 1 on a side with negatives")
     ask(it, "ask k a b sub:0:3", report="sub:0:3 2:4\n")
     same("the seats", [seat.used for seat in it.sketch().seats], [True, False, False])
+    # Large entries of any side are judged by its weight, which is 6 here.
+    it = kept(signed, "above:0:2 above:1:1")
+    ask(it, "ask k a b above:0:4 above:0:5", report="above:0:4 2:4\nabove:0:5 none\n")
+    same("the seats of weights", [seat.used for seat in it.sketch().seats], [True, True, False])
+    ask(it, "ask k a b above:0:7 above:1:1", report="above:0:7 none\nabove:1:1 none\n")
+    ask(it, "ask k a b above:0:1", "sip: no seat for query 1")
     # Entries larger than all of a side take no seat, and nothing is asked then.
     it = kept()
     lines = "heavy:0:10 none\nshare:1:1:1 none\n"
@@ -188,7 +194,7 @@ USAGES = [
     ("ask", 1),
     ("ask k a b", 4),
     ("ask  a b sub:1:2", 1),
-    ("ask k a b sub:1:2 above:0:3", 5),
+    ("ask k a b sub:1:2 above:0:0", 5),
     ("ask k a b sub:2:1", 4),
     ("ask k a b sub:0:281474976710656", 4),
     ("ask k a b moment:0:2", 4),

@@ -21,6 +21,7 @@ WORDS = (
     "sub:0:281474976710655", "sub:0:281474976710656", "range:0:0:1", "range:2:0:1", "f2:0", "f2:2",
     "inner", "heavy:0:1", "heavy:1:9223372036854775807", "share:0:1:2", "share:0:2:1", "index:0",
     "pred:1", "succ:1", "succ:281474976710655", "moment:0:3", "moment:1:8", "moment:0:9",
+    "above:0:1", "above:1:9223372036854775807", "above:2:1", "above:0:0",
 )  # fmt: skip
 
 

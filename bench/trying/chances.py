@@ -113,23 +113,23 @@ class Chances(random.Random):
         if kind in ("sub", "range"):
             lo, hi = self.interval(both[side].entries, depth)
         if kind == "heavy":
-            total = both[side].total
-            near = [
-                1,
-                2,
-                total,
-                total - 1,
-                total + 1,
-                total // 2,
-                2**63 - 1,
-                *list(both[side].entries.values())[:9],
-            ]
-            at_least = self.choice(near) + self.choice((0, 0, -1, 1))
-            at_least = min(max(at_least, 1), 2**63 - 1)
+            at_least = self.threshold(both[side].total, both[side].entries)
         if kind == "share":
             den = self.choice((1, 2, 3, 7, 100, 1_000_000, self.randint(1, 1_000_000)))
             num = self.choice((1, den, self.randint(1, den), max(den // 3, 1)))
         return Question(kind, side, lo, hi, at_least, num, den)
+
+    def threshold(self, total, counts):
+        """One about the total, or about what is there."""
+        near = [1, 2, total, total - 1, total + 1, total // 2, 2**63 - 1]
+        at_least = self.choice([*near, *list(counts.values())[:9]]) + self.choice((0, 0, -1, 1))
+        return min(max(at_least, 1), 2**63 - 1)
+
+    def large(self, both, _):
+        """Large entries of any side."""
+        side = self.randrange(2)
+        counts = self.choice((both[side].entries, both[side].weights))
+        return Question("above", side, at_least=self.threshold(both[side].weight, counts))
 
     def lookup(self, both, depth):
         item = self.choice(self.ends(both[0].entries, depth))
@@ -147,7 +147,8 @@ class Chances(random.Random):
         """Another one of its sort."""
         if question.kind in LOOKUPS:
             return self.lookup(both, depth)
-        return (self.moment if question.kind == "moment" else self.question)(both, depth)
+        draw = {"moment": self.moment, "above": self.large}.get(question.kind, self.question)
+        return draw(both, depth)
 
     def questions(self, both, depth, most=16, draw=None):
         count = min(

@@ -94,7 +94,7 @@ def by_knowledge(chance, asked, _):
     if asked.question.refusal(asked.both):
         return asked.honest()
     kinds = {
-        "sub": entries, "heavy": counted, "share": counted,
+        "sub": entries, "heavy": counted, "share": counted, "above": marked,
         "index": placed, "pred": placed, "succ": placed,
     }  # fmt: skip
     return kinds.get(asked.question.kind, sums)(chance, asked)
@@ -209,10 +209,26 @@ def counted(chance, asked):
     return made_good(chance, asked, replies)
 
 
+def marked(chance, asked):
+    """Another entry within its weight, or other weights at an edge; and a hash that makes good for
+    it."""
+    replies = asked.honest()
+    if not replies[0] or replies[0][0][0] != "Marks":
+        return replies
+    if chance.one_in(3):
+        return any_counts(chance, asked, replies, asked.question.threshold(asked.both))
+    name, rows = replies[0][0]
+    rows, at = list(rows), chance.randrange(len(rows))
+    item, value, size = rows[at]
+    rows[at] = item, chance.choice((-value, size, -size, chance.randint(-size, size))), size
+    replies[0][0] = name, rows
+    return made_good(chance, asked, replies)
+
+
 def any_counts(chance, asked, replies, threshold):
     """Other counts in one reply, many of them at an edge: so one level may have more than one
     fault."""
-    total = asked.both[asked.question.side].total
+    total = asked.question.measure(asked.both)
     j = chance.randrange(len(replies))
     for at, message in enumerate(replies[j][:-1]):
         edges = (0, 1, threshold - 1, threshold, total, total + 1, P - 1)
@@ -250,7 +266,8 @@ def made_good(chance, asked, replies):
     top = folded(asked, replies)
     if top is None:
         return replies
-    wanted = folds.root_counted(asked.both[asked.question.side], asked.block)[0]
+    root = folds.root_weighed if asked.question.kind == "above" else folds.root_counted
+    wanted = root(asked.both[asked.question.side], asked.block)[0]
     name, rows = replies[j][frame]
     index, hash_, count = rows[row]
     factor = 1
@@ -268,7 +285,8 @@ def folded(asked, replies):
     known = {}
     for reply, r in zip(replies, asked.block):
         for name, *fields in reply:
-            for index, *hash_, count in fields[0] if name in ("Leaves", "Nodes") else ():
+            rows = fields[0] if name in ("Leaves", "Nodes", "Marks") else ()
+            for index, *hash_, count in rows:
                 known[index] = (hash_[0] if hash_ else count, count)
         known = folds.up_counted(known, r)
     return known[0][0] if list(known) == [0] else None

@@ -22,7 +22,8 @@ WORDS = (
     "4294967295/4294967295", "1/4294967296", "entries:1", "entries:0", "entries:64", "entries:65",
     "entries:01", "entries:", "entries", "entries:0:1", "ENTRIES:1", "sums:0:1", "sums:1:1",
     "sums:2:1", "sums:1", "sums:0:63", "sums:0:64", "products:1", "products:0:1", "products:2",
-    "heavy:0:1", "heavy:1:1", "heavy:1", "heavy:2:1", "heavy:0:0", "sketch", "seed", "short",
+    "heavy:0:1", "heavy:1:1", "heavy:1", "heavy:2:1", "heavy:0:0", "above:0:1", "above:1:1", "above:1",
+    "above:2:1", "above:0:0", "sketch", "seed", "short",
     "none", "none/k", "stream", "text:stream", "wide:stream", "text:", "wide:", "made:7:3",
     "made:", "text:none", "٣",
 )  # fmt: skip

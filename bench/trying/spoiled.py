@@ -67,7 +67,7 @@ def fields(it):
     )
     for number, seat in enumerate(it.seats):
         at = 52 + number * (2 + 8 * (it.depth + 2))
-        yield from ((at, 1, (0, 1, 4, 5, 6, 7)), (at + 1, 1, (0, 1, 2)))
+        yield from ((at, 1, (0, 1, *range(4, 10))), (at + 1, 1, (0, 1, 2)))
         block = range(at + 2, at + 2 + 8 * it.depth, 8)
         yield from ((at, 8, (0, P - 1, P)) for at in (*block, block.stop))
         yield block.stop + 8, 8, seconds(it, seat.kind)
@@ -77,7 +77,9 @@ def seconds(it, kind):
     """What may stand at the second number of a seat, or just may not."""
     if kind < 5:
         return 0, 1, P - 1, P
-    weight = it.weights[kind - 5]
+    weight = it.weights[1 - kind % 2]
+    if kind > 6:
+        return 0, 1, weight, WEIGHT, WEIGHT + weight
     ends = WEIGHT - weight, WEIGHT + weight
     return (*ends, ends[0] - 1, ends[0] + 1, ends[1] - 1, ends[1] + 1, WEIGHT)
 
@@ -98,8 +100,8 @@ def field_changed(chance, it):
 
 
 def counted_changed(chance, it):
-    """The bytes with another total in a seat for heavy entries, used or not, on a side with numbers
-    below 0 or not."""
+    """The bytes with another second number in a seat for heavy or large entries, used or not, on a side
+    with numbers below 0 or not."""
     counted = [number for number, seat in enumerate(it.seats) if seat.kind >= 5]
     if not counted:
         return field_changed(chance, it)

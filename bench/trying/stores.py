@@ -13,7 +13,7 @@ from .copies import illegal_somewhere
 from .program import FROM, TO
 from .replies import word_of
 
-KINDS = ("sub", "range", "f2", "inner", "heavy", "share", *LOOKUPS, "moment")
+KINDS = ("sub", "range", "f2", "inner", "heavy", "share", *LOOKUPS, "moment", "above")
 
 # The kinds of one, two and three questions: each comes once in so many cases.
 TUPLES = [kinds for length in (1, 2, 3) for kinds in product(KINDS, repeat=length)]
@@ -52,18 +52,18 @@ def asked(chance, updates, depth):
     talk may have, and more."""
     both = vectors(updates)
     if chance.one_in(10):
-        draw = chance.choice((chance.question, chance.lookup, chance.moment))
+        draw = chance.choice((chance.question, chance.lookup, chance.moment, chance.large))
         return [draw(both, depth) for _ in range(chance.choice((15, 16, 17, 18)))]
     if chance.one_in(20):
-        draws = (chance.question, chance.lookup, chance.moment)
+        draws = (chance.question, chance.lookup, chance.moment, chance.large)
         return [chance.choice(draws)(both, depth) for _ in range(16)]
     return [of_kind(chance, kind, both, depth) for kind in TUPLES[chance.case % len(TUPLES)]]
 
 
 def of_kind(chance, kind, both, depth):
     """A question of this kind."""
-    if kind == "moment":
-        return chance.moment(both, depth)
+    if kind in ("moment", "above"):
+        return (chance.moment if kind == "moment" else chance.large)(both, depth)
     draw = chance.lookup if kind in LOOKUPS else chance.question
     while True:
         question = draw(both, depth)

@@ -66,8 +66,37 @@ static void worked(void) {
     sip_sketch_free(&sketch);
 }
 
+/* A sketch is asked for large entries, where one is below 0. */
+static void large(void) {
+    const uint8_t kinds[1] = {SIP_ABOVE_0}, seed[SIP_SEED] = {0};
+    const sip_question heavy = {6, 0, SIP_HEAVY, 0};
+    const sip_question none = {0, 0, SIP_ABOVE, 0};
+    sip_sketch sketch = SIP_EMPTY_HANDLE;
+    sip_asking asking = SIP_EMPTY_HANDLE;
+    sip_ending ending;
+    uint8_t file[118];
+    size_t at = 0, size = 0;
+    same("begin", sip_sketch_begin(&sketch, seed, 32, 2, 1, 1, kinds, 1), SIP_OK);
+    same("update", sip_sketch_update(&sketch, four, 4, &at), SIP_OK);
+    same("signed", sip_asking_begin(&asking, &sketch, &heavy, 1, &ending), SIP_SIGNED);
+    same("unfit", sip_asking_begin(&asking, &sketch, &none, 1, &ending), SIP_UNFIT);
+    same("ask", sip_asking_begin(&asking, &sketch, &above, 1, &ending), SIP_OK);
+    due(&asking, "01 0002 02 02 27 0008 0000000000000004");
+    feed(&asking, "26 0020 0000000000000004 0000000000000013 0000000000000000 da3a3f7e3cbe724e");
+    same("file", sip_asking_to_store(&asking, file, 118, &size), SIP_OK);
+    same("size", size, 118);
+    same("used", file[53], 1);
+    same("stored", sip_asking_stored(&asking), SIP_OK);
+    read_large(&asking);
+    same("next", sip_asking_next(&asking), SIP_OK);
+    due(&asking, "06 0000");
+    same("ended", sip_asking_ended(&asking, &ending), SIP_OK);
+    sip_asking_free(&asking);
+    sip_sketch_free(&sketch);
+}
+
 static void ends(void) {
-    const sip_question sub = {1, 2, SIP_SUB, 0}, none = {0, 0, 11, 0}, wide = {1, 4, SIP_SUB, 0};
+    const sip_question sub = {1, 2, SIP_SUB, 0}, none = {0, 0, 12, 0}, wide = {1, 4, SIP_SUB, 0};
     const sip_question twice[2] = {{1, 2, SIP_SUB, 0}, {0, 0, SIP_INDEX, 0}};
     sip_sketch sketch = SIP_EMPTY_HANDLE;
     sip_asking asking = SIP_EMPTY_HANDLE;
@@ -119,6 +148,7 @@ static void ends(void) {
 
 int main(void) {
     worked();
+    large();
     ends();
     return ended("asking: all as worked out");
 }

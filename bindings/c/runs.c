@@ -73,12 +73,34 @@ static void worked(void) {
     sip_asking_free(&asking);
 }
 
+/* A run is asked for large entries, in version 2. */
+static void large(void) {
+    sip_run run = SIP_EMPTY_HANDLE;
+    sip_asking asking = SIP_EMPTY_HANDLE;
+    sip_ending ending;
+    size_t taken = 0;
+    same("begin", sip_run_begin(&run, seed, SIP_SEED, 2, &above, 1, &ending), SIP_OK);
+    run_due(&run, "01 0002 02 02");
+    same("update", sip_run_update(&run, four, 4, &taken), SIP_OK);
+    same("taken", taken, 4);
+    same("end", sip_run_end(&run), SIP_OK);
+    run_due(&run, "02 0046 0004 00 0000000000000001 0000000000000005"
+                  "00 0000000000000002 fffffffffffffff7 00 0000000000000003 0000000000000004"
+                  "00 0000000000000003 ffffffffffffffff 03 0000");
+    same("ask", sip_run_ask(&run, &asking, &ending), SIP_OK);
+    read_large(&asking);
+    same("next", sip_asking_next(&asking), SIP_OK);
+    due(&asking, "06 0000");
+    same("ended", sip_asking_ended(&asking, &ending), SIP_OK);
+    sip_asking_free(&asking);
+}
+
 static void ends(void) {
     sip_run run = SIP_EMPTY_HANDLE;
     sip_asking asking = SIP_EMPTY_HANDLE;
     sip_ending ending;
     size_t taken = 0;
-    const sip_question none = {0, 0, 11, 0}, wide = {1, 4, SIP_SUB, 0};
+    const sip_question none = {0, 0, 12, 0}, wide = {1, 4, SIP_SUB, 0};
     const sip_update bad[4] = {{0, 3, 0}, {4, 1, 0}, {1, 1, 2}, {1, 0, 1}};
     asked(&asking);
     /* The entry is 6 in place of 5: what is wrong shows at the root, behind the last reply. */
@@ -118,6 +140,7 @@ static void ends(void) {
 
 int main(void) {
     worked();
+    large();
     ends();
     return ended("runs: all as worked out");
 }

@@ -102,7 +102,7 @@ static void worked(void) {
 }
 
 static void statuses(void) {
-    const uint8_t kinds[2] = {SIP_ENTRIES, SIP_SUMS_0}, bad[1] = {7};
+    const uint8_t kinds[2] = {SIP_ENTRIES, SIP_SUMS_0}, bad[1] = {9};
     const sip_update zero = {0, 0, 0}, side = {0, 1, 2}, item = {4, 1, 0};
     const sip_update heavy[2] = {{0, 1, 0}, {0, 1073741823, 0}};
     sip_sketch s = SIP_EMPTY_HANDLE;

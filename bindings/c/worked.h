@@ -92,3 +92,21 @@ static void read_sub(sip_asking *asking) {
     same("item", pairs[0].item, 2);
     same("value", (unsigned long long)pairs[0].value, 5);
 }
+
+/* Large entries of (0, 5, -9, 3), which was added with the weights (0, 5, 9, 5): none is 6 or more,
+   though the weight of an entry below 0 is. */
+static const sip_update four[4] = {{1, 5, 0}, {2, -9, 0}, {3, 4, 0}, {3, -1, 0}};
+static const sip_question above = {6, 0, SIP_ABOVE, 0};
+
+/* They are asked for, and none is the answer. */
+static void read_large(sip_asking *asking) {
+    sip_answer answer;
+    due(asking, "04 000a 07 00 0000000000000006");
+    feed(asking, "28 0032 0002 0000000000000002 fffffffffffffff7 0000000000000009"
+                 "0000000000000003 0000000000000003 0000000000000005 17 0000");
+    due(asking, sub_reveal);
+    feed(asking, "16 001a 0001 0000000000000000 08fa4650cfaca6d1 0000000000000005 17 0000");
+    same("answer", sip_asking_answer(asking, &answer), SIP_OK);
+    same("kind", answer.kind, SIP_PAIRS);
+    same("pairs", answer.pairs, 0);
+}

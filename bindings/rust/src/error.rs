@@ -73,7 +73,7 @@ pub enum BadUpdate {
 pub enum Unasked {
     /// It does not fit the depth.
     Unfit,
-    /// It is for large entries of a side that had a delta below 0.
+    /// It is for heavy hitters of a side that had a delta below 0.
     Signed,
     /// No unused seat serves it.
     NoSeat,

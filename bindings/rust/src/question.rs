@@ -44,6 +44,13 @@ pub enum Question {
         /// The denominator.
         den: u32,
     },
+    /// The entries of a side of at least so much, also where others are below 0.
+    Above {
+        /// The side.
+        side: u8,
+        /// 1 to 2^63 - 1.
+        at_least: u64,
+    },
     /// The value of side 0 at an item.
     Index(u64),
     /// The nearest entry of side 0 that is not 0, at this item or below.
@@ -72,6 +79,7 @@ impl Question {
             Question::Pred(item) => (8, 0, item, 0),
             Question::Succ(item) => (9, 0, item, 0),
             Question::Moment { side, degree } => (10, side, u64::from(degree), 0),
+            Question::Above { side, at_least } => (11, side, at_least, 0),
         };
         QuestionCode { lo, hi, kind, side }
     }

@@ -30,6 +30,10 @@ pub enum SeatKind {
     Heavy0 = 5,
     /// Heavy hitters of side 1.
     Heavy1 = 6,
+    /// Large entries of side 0, also where others are below 0.
+    Above0 = 7,
+    /// Large entries of side 1.
+    Above1 = 8,
 }
 
 impl SeatKind {
@@ -40,7 +44,9 @@ impl SeatKind {
             3 => SeatKind::Sums1,
             4 => SeatKind::Products,
             5 => SeatKind::Heavy0,
-            _ => SeatKind::Heavy1,
+            6 => SeatKind::Heavy1,
+            7 => SeatKind::Above0,
+            _ => SeatKind::Above1,
         }
     }
 }
@@ -162,7 +168,8 @@ impl Sketch {
     }
 
     /// Keeps tables of the challenges of each unused seat, by which updates are added faster from
-    /// now on: 2 KiB for a seat and eight levels, 4 for heavy hitters. They are not saved.
+    /// now on: 2 KiB for a seat and eight levels, 4 for heavy hitters, none for large entries. They
+    /// are not saved.
     ///
     /// # Errors
     ///

@@ -235,6 +235,37 @@ fn a_sketch_is_asked_over_a_link() {
     assert_eq!((files.len(), answers.len()), (1, 1));
 }
 
+// Of (0, 5, -9, 3), which was added with the weights (0, 5, 9, 5), no entry is 6 or more.
+#[test]
+fn large_entries_are_asked_whatever_was_added() {
+    let mut sketch = Sketch::begin(&SEED, 2, &[SeatKind::Above0]).unwrap();
+    sketch
+        .update(&[update(1, 5), update(2, -9), update(3, 4), update(3, -1)])
+        .unwrap();
+    assert_eq!(sketch.seats().next().unwrap().kind, SeatKind::Above0);
+    let large = Question::Above {
+        side: 0,
+        at_least: 6,
+    };
+    let mut link = link(&[
+        "26 0020 0000000000000004 0000000000000013 0000000000000000 da3a3f7e3cbe724e",
+        "28 0032 0002 0000000000000002 fffffffffffffff7 0000000000000009",
+        "0000000000000003 0000000000000003 0000000000000005 17 0000",
+        "16 001a 0001 0000000000000000 08fa4650cfaca6d1 0000000000000005 17 0000",
+    ]);
+    let mut asking = Asking::begin(sketch, &[large]).unwrap();
+    let mut answers = vec![];
+    ask(
+        &mut asking,
+        &mut link,
+        |_| Ok(()),
+        |answer| answers.push(answer),
+    )
+    .unwrap();
+    let value = Value::Pairs(vec![]);
+    assert_eq!(answers, [Answer { question: 1, value }]);
+}
+
 #[test]
 fn a_lie_is_rejected() {
     let lie = SHOWN.replace("0000000000000005", "0000000000000006");

@@ -100,6 +100,30 @@ impl<'a> Read for LateReader<'a> {
     }
 }
 
+/// A file that is read a second time: it has to be a regular one, since another has no bytes any
+/// more.
+#[derive(Drop)]
+pub(crate) struct AgainReader<'a> {
+    reader: LateReader<'a>,
+}
+
+impl<'a> AgainReader<'a> {
+    /// Reads a file from its begin, whatever was read of it before.
+    pub(crate) fn new(reader: LateReader<'a>) -> AgainReader<'a> {
+        AgainReader { reader }
+    }
+}
+
+impl<'a> Read for AgainReader<'a> {
+    fn read(&mut self, buf: &mut [u8]) -> io::Result<usize> {
+        let late = &self.reader.late;
+        if late.file.is_none() && !fs::metadata(&late.rt, late.name)?.is_file() {
+            return Err(io::Error::from(ErrorKind::NotFound));
+        }
+        self.reader.read(buf)
+    }
+}
+
 /// A file that is made or emptied when it is first written: until then it is as it was.
 #[derive(Drop)]
 pub(crate) struct LateWriter<'a> {

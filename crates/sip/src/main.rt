@@ -250,20 +250,14 @@ fn record(
     Box::new(rt.alloc(), FileSink::new(file)).ok()
 }
 
-/// The ports of a run, but for the first source and what keeps the transcript.
-#[derive(Drop)]
-struct RunPorts {
-    second: Box<FileSource>,
-    peer: Box<Peer>,
-}
-
 /// Does a command over these ports. `play` and `panel` have no use for the link, and `panel` none
 /// for what keeps a transcript.
-fn obey_keeping<S: Source, C: Sink>(
+fn obey_keeping<S: Source, T: Source, C: Sink>(
     rt: &HostRuntime,
     command: &Command,
     first: &mut S,
-    held: &mut RunPorts,
+    second: &mut T,
+    peer: &mut Peer,
     keep: &mut C,
     negatives: &mut Negatives,
 ) -> Status
@@ -272,7 +266,6 @@ fn obey_keeping<S: Source, C: Sink>(
     ensures { Ends command.now result }
 {
     let mut report = StdoutSink::new(io::writer(rt));
-    let second = &mut *held.second;
     let played = play(
         rt.alloc(),
         command,
@@ -294,33 +287,32 @@ fn obey_keeping<S: Source, C: Sink>(
         command,
         first,
         second,
-        &mut *held.peer,
+        peer,
         &mut report,
         keep,
         negatives,
     )
 }
 
-/// Opens the files that the words name, but for the first source, and does the command that they
+/// Opens the files that the words name, but for the two sources, and does the command that they
 /// spell. A file that does not open is a port whose calls fail. Words of `play` and `panel` name
 /// none for a link, since their helpers are in the program. `None` where memory is refused to a
 /// port.
 #[inline(never)]
-fn obey_over<S: Source>(
+fn obey_over<S: Source, T: Source>(
     rt: &HostRuntime,
     words: &Words,
     command: &Command,
     plan: &PortPlan,
     first: &mut S,
+    second: &mut T,
     noted: &mut Noted,
     tells: bool,
 ) -> Option<Status>
     requires { Spells words.now command.now }
     ensures { IfSome result (λ status. Ends command.now status) }
 {
-    let second = source(rt, words, plan.second, noted)?;
-    let peer = link(rt, words, command, plan, noted, tells)?;
-    let mut held = RunPorts { second, peer };
+    let mut peer = link(rt, words, command, plan, noted, tells)?;
     // Where neither TO nor RECORD was there, they may be one file now.
     let keep = sparing(rt, words, plan).keep;
     if keep != plan.keep {
@@ -330,11 +322,12 @@ fn obey_over<S: Source>(
         Opening::Path { .. } | Opening::Spared => {
             let mut keep = record(rt, words, keep, noted)?;
             let told = &mut noted.negatives;
-            obey_keeping(rt, command, first, &mut held, &mut *keep, told)
+            obey_keeping(rt, command, first, second, &mut *peer, &mut *keep, told)
         }
         Opening::Nothing | Opening::Standard | Opening::Made { .. } => {
             let told = &mut noted.negatives;
-            obey_keeping(rt, command, first, &mut held, &mut NullSink::new(), told)
+            let keep = &mut NullSink::new();
+            obey_keeping(rt, command, first, second, &mut *peer, keep, told)
         }
     })
 }
@@ -369,11 +362,31 @@ fn obey_opened(
             depth,
         } => {
             let mut first = made(rt, command, *number, *count, *depth, tells)?;
-            obey_over(rt, words, command, &plan, &mut *first, noted, tells)
+            let mut second = source(rt, words, plan.second, noted)?;
+            obey_over(
+                rt,
+                words,
+                command,
+                &plan,
+                &mut *first,
+                &mut *second,
+                noted,
+                tells,
+            )
         }
         Opening::Nothing | Opening::Standard | Opening::Spared | Opening::Path { .. } => {
             let mut first = stream(rt, words, command, asked.first, noted, tells)?;
-            obey_over(rt, words, command, &plan, &mut *first, noted, tells)
+            let mut second = source(rt, words, plan.second, noted)?;
+            obey_over(
+                rt,
+                words,
+                command,
+                &plan,
+                &mut *first,
+                &mut *second,
+                noted,
+                tells,
+            )
         }
     }
 }

@@ -5,7 +5,7 @@ ghost use Rattle.sip_cli.specs.Statuses.{Ends};
 ghost use Rattle.sip_cli.specs.ToldStream.{stream_form, stream_teller, unread};
 ghost use Rattle.sip_words.specs.Words.{Spells};
 
-use crate::late::{LateReader, look_again};
+use crate::late::{AgainReader, LateReader, look_again};
 use crate::{Stream, lines, obey_over};
 use sip_advice::Noted;
 use sip_cli::ToldSource;
@@ -30,6 +30,17 @@ fn stored<'a>(
     Box::new(rt.alloc(), ToldSource::new(command, file, lines(rt, tells))).ok()
 }
 
+/// A source over the same file, which is read again from its begin; `None` where memory is refused.
+#[inline(never)]
+fn again<'a>(
+    rt: &HostRuntime,
+    words: &'a Words,
+    opening: Opening,
+) -> Option<Box<ReaderSource<AgainReader<'a>>>> {
+    let file = LateReader::of(rt, words, opening, None).map(AgainReader::new);
+    Box::new(rt.alloc(), ReaderSource::new(file)).ok()
+}
+
 /// Does `serve`, whose stream is opened when it is first read, and notes which files are not to be
 /// had. `None` where memory is refused to a port.
 #[inline(never)]
@@ -45,7 +56,17 @@ pub fn obey_stored(
     ensures { IfSome result (λ status. Ends command.now status) }
 {
     let mut first = stored(rt, words, command, plan.first, tells)?;
-    let status = obey_over(rt, words, command, plan, &mut *first, noted, tells)?;
+    let mut again = again(rt, words, plan.first)?;
+    let status = obey_over(
+        rt,
+        words,
+        command,
+        plan,
+        &mut *first,
+        &mut *again,
+        noted,
+        tells,
+    )?;
     if matches!(status, Status::ReadFault { port: Port::First }) {
         look_again(rt, words, plan.first, &mut noted.first);
     }

@@ -21,6 +21,7 @@ macro_rules! with_sketches {
                   sums:SIDE:N    for range, f2 and moment of a side
                   products:N     for inner
                   heavy:SIDE:N   for heavy and share of a side
+                  above:SIDE:N   for above of a side
                   with SIDE 0 or 1, and N from 1; 64 seats in all
 
       A question uses a seat, and a seat serves one question. A record costs at
@@ -75,15 +76,18 @@ macro_rules! with_sketches {
       FROM      the file or FIFO that brings the helper's bytes, or - for
                 standard input
       TO        the file or FIFO that takes ours
-      QUESTION  a QUERY of sip verify, a LOOKUP of sip lookup or a MOMENT of sip
-                moments, in any order, with items below 2^DEPTH of the sketch
+      QUESTION  a QUERY of sip verify, a LOOKUP of sip lookup, a MOMENT of sip
+                moments, or above:SIDE:T, the entries of a side that are T or
+                more, whatever was added; in any order, with items below 2^DEPTH
+                of the sketch
 
       First the helper says what it holds: where its stream is not that of the
       sketch, nothing is asked and no seat is lost. Then each question takes the
       first unused seat that serves it, which is used from then on, whatever
       comes: the file says so before the question is sent. heavy and share are
-      not asked of a side that had a number below 0, and take no seat where T is
-      more than the whole side. The wait for the helper has no limit but one
+      not asked of a side that had a number below 0; above is. They take no seat
+      where T is more than the whole side: for above, all that was added with
+      signs left out. The wait for the helper has no limit but one
       that stands before the command, as timeout 60 sip ask .. does.
 
       sip ask web.sketch from.fifo to.fifo sub:100:199 succ:7 moment:0:3
@@ -94,7 +98,7 @@ macro_rules! with_sketches {
       of every kind about its first records, as many as the sketch has.
 
       STORED  a file of records, or wide:PATH or text:PATH as for sip verify; it
-              may grow between two talks
+              may grow between two talks, and is read twice where above is asked
       FROM    the file or FIFO that brings the other side's bytes, or - for
               standard input
       TO      the file or FIFO that takes ours, or - for standard output

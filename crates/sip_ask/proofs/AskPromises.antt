@@ -7,7 +7,6 @@ use Rattle.std.proofs.lemmas.List.Elements.{All-head, All-tail}
 use Rattle.sip_ports.specs.Ports.{GoesOn, outs}
 use Rattle.sip_ports.specs.declared.port.TalkEvent.{TalkEvent}
 use Rattle.sip_ports.proofs.TalkLemmas.{GoesOn-nothing, GoesOn-told}
-use Rattle.sip_vector.specs.Answers.{pairs}
 use Rattle.sip_vector.specs.declared.update.Update.{Update}
 use Rattle.sip_vector.specs.Tallies.{tally}
 use Rattle.sip_vector.specs.declared.tally.Tally.{Tally}
@@ -21,10 +20,10 @@ use Rattle.sip_verifier.specs.runs.Asking.{question_of}
 use Rattle.sip_verifier.specs.runs.Manners.{Manner}
 use Rattle.sip_verifier.specs.runs.Progress.{Checks, EndsWith, Passes, PassesInPart, PassedBy}
 use Rattle.sip_verifier.proofs.QueriesChecked.{ends_with, none_passed, passed_more}
-use Rattle.sip_questions.specs.Questions.{Answered, asking, to_query}
+use Rattle.sip_questions.specs.Questions.{Answered, asking}
 use Rattle.sip_questions.specs.declared.question.Question.{Question}
 use Rattle.sip_sketch.specs.Sketches.{SeatValues, SketchValues, spelled_file}
-use Rattle.sip_ask.specs.Asking.{AsksAll, Came, IsAskedOn, SaysBye, marked_by, steps_of}
+use Rattle.sip_ask.specs.Asking.{AsksAll, Came, IsAskedOn, SaysBye, marked_by, none_of, steps_of}
 use Rattle.sip_ask.specs.Choosing.{is_idle}
 use Rattle.sip_ask.specs.Marking.{mark, used_at}
 use Rattle.sip_ask.specs.Promises.{block_for, of_link, run_status}
@@ -103,10 +102,10 @@ module _ (version : Version) (s : SketchValues) (stream : List Update) (below : 
   module _ (q : Question) (block : List ℕ) (number : ℕ) where
     -- nothing is said for it, and its line is written
     idle-passes : (talk lines : List TalkEvent) (new full : Option (List TalkEvent)) → AnswersNone version s.depth stream below q block
-        → GoesOn (Some talk) new [] → GoesOn (Some lines) full (outs (m.line q (to_query (pairs []))))
+        → GoesOn (Some talk) new [] → GoesOn (Some lines) full (outs (m.line q (none_of q)))
         → Passes m q block number (Some (of_link talk)) (linked new) (Some lines) full
     idle-passes talk lines new full none same line = record {
-      answer = to_query (pairs []);
+      answer = none_of q;
       answered = record {
         replies = [];
         talk = subst (GoesOn (Some (of_link talk)) (linked new)) (sym none.silent) (linked-goes (Some talk) new [] same);
@@ -116,10 +115,10 @@ module _ (version : Version) (s : SketchValues) (stream : List Update) (below : 
     }
 
     idle-part : (talk lines : List TalkEvent) (new full : Option (List TalkEvent)) (part : List ℕ) → AnswersNone version s.depth stream below q block
-        → GoesOn (Some talk) new [] → IsPrefix part (m.line q (to_query (pairs []))) → GoesOn (Some lines) full (outs part)
+        → GoesOn (Some talk) new [] → IsPrefix part (m.line q (none_of q)) → GoesOn (Some lines) full (outs part)
         → PassesInPart m q block number (Some (of_link talk)) (linked new) (Some lines) full
     idle-part talk lines new full part none same front line = record {
-      answer = to_query (pairs []);
+      answer = none_of q;
       answered = record {
         replies = [];
         talk = subst (GoesOn (Some (of_link talk)) (linked new)) (sym none.silent) (linked-goes (Some talk) new [] same);
@@ -215,7 +214,7 @@ module _ (version : Version) (s : SketchValues) (stream : List Update) (below : 
         → Came m now (suc count) q (Some talk) mid (Some lines) half place (Ok tt) → OneMore count mid half
     one-more count q left None taken now talk lines mid half l done (same, line) =
         let none = none-left told count q left taken now l (block_for s None) in
-        let text = outs (m.line q (to_query (pairs []))) in
+        let text = outs (m.line q (none_of q)) in
         more-done count q left None taken now talk lines talk (lines ++ text) mid half l done (GoesOn-nothing talk mid same) (GoesOn-told lines half text line)
         (idle-passes q (block_for s None) (suc count) talk lines mid half none same line)
     one-more count q left (Some place) taken now talk lines mid half l done a =

@@ -16,11 +16,12 @@ use Rattle.sip_verifier.specs.CountClause.{accepts_in, bound_of}
 use Rattle.sip_verifier.specs.JointClause.{asked_by}
 use Rattle.sip_verifier.specs.Kinds.{Holds, Kind, KindRow, built, missing, kind_row}
 use Rattle.sip_verifier.proofs.CountedQuestions.{few_wrong, question_counts}
+use Rattle.sip_above.proofs.LargeCounts.{few_large, large_counts}
 use Rattle.sip_lookup.proofs.WrittenLooks.{few_looks, look_counts}
 use Rattle.sip_moments.proofs.WrittenMoments.{few_moments, moment_counts}
 use Rattle.sip_questions.specs.Counting.{CountsOf}
 use Rattle.sip_questions.specs.Honest.{answer}
-use Rattle.sip_questions.specs.Questions.{AcceptsOf, Answered, Posed, to_lookup, to_moment, to_query}
+use Rattle.sip_questions.specs.Questions.{AcceptsOf, Answered, Posed, to_large, to_lookup, to_moment, to_query}
 use Rattle.sip_questions.specs.declared.question.Question.{Question}
 use Rattle.sip_questions.specs.declared.question.Question.TheVariants as questions
 use Rattle.sip_ask.specs.Counting.{Asked, IsCounted, IsSound, SeatPlan, counted, counted_by, counted_or_none, plan_of}
@@ -47,6 +48,7 @@ module _ (version : Version) (depth : ℕ) (stream : List Update) where
       (query-counts version depth stream query is.fitting is.unsigned)
   question-few (questions.Lookup lookup) is = few_looks version depth stream is.legal lookup (lookup-fits depth lookup is.fitting)
   question-few (questions.Moment moment) is = few_moments version depth stream is.legal moment (moment-counts depth stream moment is.fitting is.low)
+  question-few (questions.Large large) is = few_large version depth stream large is.legal
 
   -- a wrong answer that was accepted is one that the row counts
   row-counts : (row : KindRow) (block : List ℕ) (taken : List (List ℕ)) (written right : Answer) (strategy : Strategy)
@@ -70,6 +72,15 @@ module _ (version : Version) (depth : ℕ) (stream : List Update) where
       (moment_counts version depth stream is.legal (record { query = moment; block = t.block; replies = t.replies }) written accepts
       (moment-counts depth stream moment is.fitting is.low)).counts
       strategy written talk refl (λ same. wrong (ap to_moment same))
+  question-counts t (questions.Large large) (to_large written) strategy is accepts wrong talk =
+      (large_counts version depth stream (record { query = large; block = t.block; replies = t.replies }) written is.legal accepts).counts
+      strategy written talk refl (λ same. wrong (ap to_large same))
+  question-counts t (questions.Query query) (to_large written) strategy is accepts wrong talk = absurd accepts
+  question-counts t (questions.Lookup lookup) (to_large written) strategy is accepts wrong talk = absurd accepts
+  question-counts t (questions.Moment moment) (to_large written) strategy is accepts wrong talk = absurd accepts
+  question-counts t (questions.Large large) (to_query written) strategy is accepts wrong talk = absurd accepts
+  question-counts t (questions.Large large) (to_lookup written) strategy is accepts wrong talk = absurd accepts
+  question-counts t (questions.Large large) (to_moment written) strategy is accepts wrong talk = absurd accepts
   question-counts t (questions.Query query) (to_lookup written) strategy is accepts wrong talk = absurd accepts
   question-counts t (questions.Query query) (to_moment written) strategy is accepts wrong talk = absurd accepts
   question-counts t (questions.Lookup lookup) (to_query written) strategy is accepts wrong talk = absurd accepts
@@ -88,6 +99,14 @@ module _ (version : Version) (depth : ℕ) (stream : List Update) where
       counts.counts strategy written talk refl (λ same. wrong (ap to_lookup same))
   question-found t (questions.Moment moment) (to_moment written) strategy is counts wrong talk =
       (counts (moment-counts depth stream moment is.fitting is.low)).counts strategy written talk refl (λ same. wrong (ap to_moment same))
+  question-found t (questions.Large large) (to_large written) strategy is counts wrong talk =
+      counts.counts strategy written talk refl (λ same. wrong (ap to_large same))
+  question-found t (questions.Query query) (to_large written) strategy is counts wrong talk = absurd counts
+  question-found t (questions.Lookup lookup) (to_large written) strategy is counts wrong talk = absurd counts
+  question-found t (questions.Moment moment) (to_large written) strategy is counts wrong talk = absurd counts
+  question-found t (questions.Large large) (to_query written) strategy is counts wrong talk = absurd counts
+  question-found t (questions.Large large) (to_lookup written) strategy is counts wrong talk = absurd counts
+  question-found t (questions.Large large) (to_moment written) strategy is counts wrong talk = absurd counts
   question-found t (questions.Query query) (to_lookup written) strategy is counts wrong talk = absurd counts
   question-found t (questions.Query query) (to_moment written) strategy is counts wrong talk = absurd counts
   question-found t (questions.Lookup lookup) (to_query written) strategy is counts wrong talk = absurd counts

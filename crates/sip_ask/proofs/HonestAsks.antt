@@ -184,7 +184,7 @@ module _ (asked : List Question) (start : Option (List ℕ)) (talk events wrote 
         heard-append (stream_sent version t.s.depth stream) (of_link b.behind)
         ∙ ap (λ (l : List ℕ). l ++ heard (of_link b.behind)) (heard-stream version t.s.depth stream) ∙ heard-link b.behind in
         let blocks = cut-blocks t.s.depth (sketch-some t.s h.is) (block_for t.s) t.places (blocks-whole t.s h.is asked t.places (chosen-is t.s asked t.places t.chosen).take) in
-        let same = questions-same version t.s.depth h.store stream h.vectors (zip asked (map (block_for t.s) t.places)) in
+        let same = questions-same version t.s.depth h.store stream h.vectors h.heavy (zip asked (map (block_for t.s) t.places)) in
         let moved : replies_at h.store (map (block_for t.s) t.places) ≡ replies_at (updates r x) (cut t.s.depth (flat_map (block_for t.s) t.places)) =
         same ∙ ap (replies_at stream) (sym blocks) ∙ ap (λ (us : List Update). replies_at us (cut t.s.depth (flat_map (block_for t.s) t.places))) (sym same-updates) in
         subst (λ (l : List ℕ). IsPrefix l (replies_at (updates r x) (cut t.s.depth (flat_map (block_for t.s) t.places)))) (sym linked)

@@ -24,6 +24,8 @@ use Rattle.sip_verifier.specs.runs.Asking.{IsAnswered, IsInterrupted, IsRejected
 use Rattle.sip_verifier.specs.runs.Manners.{Manner}
 use Rattle.sip_verifier.specs.runs.Progress.{Checks, Fails, FailsInPart, HasNone, Passes, PassesInPart, StaysUnjudged}
 use Rattle.sip_verifier.proofs.TalksOfLink.{asked_of_link, ended_of_link, ending_of_link, prefix_of_link, unless_of_link}
+use Rattle.sip_above.specs.Manner as larges
+use Rattle.sip_above.specs.Questions.{ask_of as large_of}
 use Rattle.sip_lookup.specs.Frames.{ask_message, found_message, read_found}
 use Rattle.sip_lookup.specs.Lookups.{is_possible, range_of}
 use Rattle.sip_lookup.specs.Questions as lookups
@@ -124,6 +126,7 @@ module _ (version : Version) (depth : ℕ) (stream : List Update) where
   said-of-link q (questions.Query query) = kind-of-link (kind_row version depth stream query) (record { query = query; block = q.block; replies = q.replies })
   said-of-link q (questions.Lookup lookup) = look-of-link version depth (record { query = lookup; block = q.block; replies = q.replies })
   said-of-link q (questions.Moment moment) = asked_of_link version (ask_of moment) q.block q.replies
+  said-of-link q (questions.Large large) = unless_of_link (larges.protocol_of version depth stream (record { query = large; block = q.block; replies = q.replies })).unasked version (large_of large) q.block q.replies
 
   row-ended : (row : KindRow) (block : List ℕ) (replies : List (List ℕ)) (ended : List TalkEvent)
       → Holds (λ kind. general.IsUnjudged (kind.protocol block) block replies ended) row → IsOfLink ended
@@ -139,6 +142,7 @@ module _ (version : Version) (depth : ℕ) (stream : List Update) where
   ended-link q (questions.Query query) ended unjudged = row-ended (kind_row version depth stream query) q.block q.replies ended unjudged
   ended-link q (questions.Lookup lookup) ended unjudged = look-ended (record { query = lookup; block = q.block; replies = q.replies }) ended unjudged
   ended-link q (questions.Moment moment) ended unjudged = ended_of_link ended unjudged.may_end
+  ended-link q (questions.Large large) ended unjudged = ended_of_link ended unjudged.may_end
 
   -- ---- what came of a question
 

@@ -12,7 +12,7 @@ use Rattle.sip_vector.specs.declared.tally.Tally.{Tally}
 use Rattle.sip_vector.specs.declared.update.Side.{Side}
 use Rattle.sip_vector.specs.declared.update.Side.TheVariants.{First, Second}
 use Rattle.sip_wire.specs.declared.version.Version.{Version}
-use Rattle.sip_verifier.specs.QuerySeats.{RunningNumbers}
+use Rattle.sip_verifier.specs.QuerySeats.{RunningNumbers, split_root_is}
 use Rattle.sip_verifier.specs.Weights.{weight_in}
 use Rattle.sip_verifier.specs.Widths.{is_wide_seat}
 use Rattle.sip_verifier.specs.declared.status.Status.{Status}
@@ -26,7 +26,7 @@ use Rattle.sip_questions.specs.declared.question.Question.TheVariants as questio
 use Rattle.sip_questions.specs.declared.seat.QuestionSeat.{QuestionSeat}
 use Rattle.sip_questions.specs.declared.seat.QuestionSeat.TheVariants as seats
 use Rattle.sip_sketch.specs.Fields.{Field, IsValue}
-use Rattle.sip_sketch.specs.Seats.{numbers_kept}
+use Rattle.sip_sketch.specs.Seats.{beside, numbers_kept, side_of}
 use Rattle.sip_sketch.specs.Sketches.{IsSketch, SeatValues, SketchValues, code_of, second_of, total_field}
 use Rattle.sip_sketch.specs.declared.kind.SeatKind.{SeatKind}
 use Rattle.sip_sketch.specs.declared.kind.SeatKind.TheVariants as kinds
@@ -65,21 +65,25 @@ abbrev is_wide_at : Question → RunningNumbers → Bool
 is_wide_at (questions.Query query) running = is_wide_seat query running
 is_wide_at (questions.Lookup lookup) running = false
 is_wide_at (questions.Moment moment) running = false
+is_wide_at (questions.Large large) (split_root_is hash weight) = is_wide large.at_least (pos weight)
+is_wide_at (questions.Large large) running = false
 
 abbrev is_high_by : (Side → ℕ) → Question → Bool
 is_high_by weight (questions.Query query) = false
 is_high_by weight (questions.Lookup lookup) = false
 is_high_by weight (questions.Moment moment) = is_too_high (weight moment.side) moment.degree
+is_high_by weight (questions.Large large) = false
 
 refuses-none : (weight : Side → ℕ) (number : ℕ) (seat : QuestionSeat) → is_wide_at (question_at seat) (running_at seat) ≡ false
     → is_high_by weight (question_at seat) ≡ false → refusal_at weight number seat ≡ None
 refuses-none weight number (seats.Query seat) narrow low = rw narrow refl
 refuses-none weight number (seats.Lookup lookup root) narrow low = refl
 refuses-none weight number (seats.Moment moment point) narrow low = rw low refl
+refuses-none weight number (seats.Large large root) narrow low = rw narrow refl
 
 query-narrow : (t : Tally) (query : Query) (first x : ℕ) → IsValue (second_of t (code_of (kind_of query)) (from_bool false)) x
     → is_signed t (questions.Query query) ≡ false → is_wide_of t (questions.Query query) ≡ false
-    → is_wide_seat query (numbers_kept (kind_of query) first x) ≡ false
+    → is_wide_seat query (beside (weight_told t (side_of (kind_of query))) (numbers_kept (kind_of query) first x)) ≡ false
 query-narrow t (Sub lo hi) first x value own narrow = refl
 query-narrow t (Range side lo hi) first x value own narrow = refl
 query-narrow t (F2 side) first x value own narrow = refl
@@ -89,32 +93,35 @@ query-narrow t (Share side num den) first x value own narrow = ap (λ (n : ℤ).
 query-narrow t (Above side at_least) first x value own narrow = refl
 
 question-narrow : (t : Tally) (q : Question) (first x : ℕ) → IsValue (second_of t (code_of (kind_for q)) (from_bool false)) x → IsTested t q
-    → is_wide_at q (numbers_kept (kind_for q) first x) ≡ false
+    → is_wide_at q (beside (weight_told t (side_of (kind_for q))) (numbers_kept (kind_for q) first x)) ≡ false
 question-narrow t (questions.Query query) first x value tested = query-narrow t query first x value tested.unsigned tested.narrow
 question-narrow t (questions.Lookup lookup) first x value tested = refl
 question-narrow t (questions.Moment moment) first x value tested = refl
+question-narrow t (questions.Large large) first x value tested = tested.narrow
 
 question-low : (t : Tally) (q : Question) → IsTested t q → is_high_by (weight_told t) q ≡ false
 question-low t (questions.Query query) tested = refl
 question-low t (questions.Lookup lookup) tested = refl
 question-low t (questions.Moment moment) tested = tested.low
+question-low t (questions.Large large) tested = refl
 
 -- a seat of the question's kind that was not used
 pub seat-refuses : (depth : ℕ) (t : Tally) (q : Question) (seat : SeatValues) (result : QuestionSeat) (number : ℕ) → SeatFits depth t seat
-    → seat.kind ≡ kind_for q → seat.is_used ≡ false → IsTested t q → question_at result ≡ q → running_at result ≡ numbers_kept seat.kind seat.first seat.second
+    → seat.kind ≡ kind_for q → seat.is_used ≡ false → IsTested t q → question_at result ≡ q → running_at result ≡ beside (weight_told t (side_of seat.kind)) (numbers_kept seat.kind seat.first seat.second)
     → refusal_at (weight_told t) number result ≡ None
 seat-refuses depth t q seat result number fits kind unused tested asks keeps =
     let second = subst (λ (b : Bool). IsValue (second_of t (code_of (kind_for q)) (from_bool b)) seat.second) unused
     (subst (λ (k : SeatKind). IsValue (second_of t (code_of k) (from_bool seat.is_used)) seat.second) kind fits.second) in
     let narrow = question-narrow t q seat.first seat.second second tested in
-    let running : running_at result ≡ numbers_kept (kind_for q) seat.first seat.second = keeps ∙ ap (λ (k : SeatKind). numbers_kept k seat.first seat.second) kind in
+    let running : running_at result ≡ beside (weight_told t (side_of (kind_for q))) (numbers_kept (kind_for q) seat.first seat.second) =
+    keeps ∙ ap (λ (k : SeatKind). beside (weight_told t (side_of k)) (numbers_kept k seat.first seat.second)) kind in
     refuses-none (weight_told t) number result
     (subst (λ (x : Question). is_wide_at x (running_at result) ≡ false) (sym asks) (subst (λ (n : RunningNumbers). is_wide_at q n ≡ false) (sym running) narrow))
     (subst (λ (x : Question). is_high_by (weight_told t) x ≡ false) (sym asks) (question-low t q tested))
 
 -- that of the seat at a place which serves it
 pub seat-free : (s : SketchValues) (is : IsSketch s) (q : Question) (place : ℕ) (own : SeatValues) (result : QuestionSeat) (number : ℕ) → own ≡ get_or s.seats place own → Serves s q place
-    → IsTested s.tally q → question_at result ≡ q → running_at result ≡ numbers_kept own.kind own.first own.second → refusal_at (weight_told s.tally) number result ≡ None
+    → IsTested s.tally q → question_at result ≡ q → running_at result ≡ beside (weight_told s.tally (side_of own.kind)) (numbers_kept own.kind own.first own.second) → refusal_at (weight_told s.tally) number result ≡ None
 seat-free s is q place own result number at serves tested asks keeps =
     let fits = subst (SeatFits s.depth s.tally) (sym at) (All-get_or (SeatFits s.depth s.tally) s.seats place own serves.inside (fits_from s is)) in
     let seat = subst (IsSeat q) (sym at) (serves.seat own) in

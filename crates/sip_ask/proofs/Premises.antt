@@ -1,10 +1,11 @@
 -- What a count asks of a question, by what an ask tests.
-use Rattle.std.proofs.Common.{◌≡◌, ℕ, ◌^◌, Bool, true, false, cond, ◌==◌, leb, ℤ, pos, negsuc, ◌≤ℤ◌, List, [], ◌∷◌, map, filter, All, refl, sym, subst, ◌∙◌, inl, inr, arith}
+use Rattle.std.proofs.Common.{◌≡◌, ℕ, ◌^◌, Bool, true, false, cond, ◌==◌, leb, ltb, ℤ, pos, negsuc, ◌≤ℤ◌, List, [], ◌∷◌, map, filter, All, refl, sym, subst, ◌∙◌, inl, inr, arith}
 use Rattle.std.specs.Prelude.{IsTrue, int_lt}
 use Rattle.std.specs.List.{list_any, range_with_len}
 use Rattle.std.proofs.lemmas.Bool.{and_parts, cases_Bool, leb-true, ltb-true, or_parts}
 use Rattle.std.proofs.lemmas.Int.{ints}
 use Rattle.std.proofs.lemmas.List.Elements.{All-cons, All-filter, All-head, All-map, All-nil, All-tail, filter_passes}
+use Rattle.sip_vector.specs.Answers.{Fits}
 use Rattle.sip_vector.specs.Built.{is_built}
 use Rattle.sip_vector.specs.Streams.{IsStrict, frequency, int_sum, of_side, same_side}
 use Rattle.sip_vector.specs.Tallies.{has_negative, tally}
@@ -19,6 +20,8 @@ use Rattle.sip_verifier.specs.Kinds.{OfKind}
 use Rattle.sip_verifier.specs.QuerySeats.{does_fit}
 use Rattle.sip_verifier.specs.Tasks.{CanBeAsked}
 use Rattle.sip_verifier.proofs.SeatsHead.{fits-asked}
+use Rattle.sip_above.specs.declared.large.Large.{Large}
+use Rattle.sip_above.specs.Questions.{query_of}
 use Rattle.sip_lookup.specs.Lookups.{CanLook, item_of}
 use Rattle.sip_lookup.specs.declared.lookup.Lookup.{Lookup}
 use Rattle.sip_moments.specs.Manner as moments
@@ -39,6 +42,11 @@ pub moment-fits : (depth : ℕ) (moment : Moment) → IsTrue (fits depth (questi
 moment-fits depth moment fit =
     let both = and_parts (leb least_degree moment.degree) (leb moment.degree most_degree) fit in
     record { least = leb-true least_degree moment.degree both.0; most = leb-true moment.degree most_degree both.1 }
+
+pub large-fits : (depth : ℕ) (l : Large) → IsTrue (fits depth (questions.Large l)) → Fits depth (query_of l)
+large-fits depth l fit =
+    let both = and_parts (leb 1 l.at_least) (ltb l.at_least (2 ^ 63)) fit in
+    (leb-true 1 l.at_least both.0, ltb-true l.at_least (2 ^ 63) both.1)
 
 -- ---- a side that had no delta below 0
 

@@ -1,76 +1,90 @@
 -- What a seat keeps serves each question of its kind.
-use Rattle.std.proofs.Common.{◌≡◌, ℕ, ◌≤◌, true, false, List, [], ◌∷◌, All, refl, sym, subst}
+use Rattle.std.proofs.Common.{◌≡◌, ℕ, ◌≤◌, List, [], ◌∷◌, All, get_or, refl, sym, ap, subst, ◌∙◌}
 use Rattle.std.specs.Prelude.{IsTrue}
-use Rattle.std.proofs.lemmas.Bool.{and_parts}
 use Rattle.std.proofs.lemmas.List.Elements.{All-cons, All-head, All-nil, All-tail}
-use Rattle.sip_vector.specs.Built.{is_built}
+use Rattle.sip_vector.specs.Streams.{weight}
 use Rattle.sip_vector.specs.Limits.{most_depth}
 use Rattle.sip_vector.specs.declared.query.Query.{Query}
 use Rattle.sip_vector.specs.declared.query.Query.TheVariants.{Sub, Range, F2, Inner, Heavy, Share, Above}
+use Rattle.sip_vector.specs.declared.tally.Tally.{Tally}
+use Rattle.sip_vector.specs.declared.update.Side.{Side}
+use Rattle.sip_vector.specs.declared.update.Side.TheVariants.{First, Second}
 use Rattle.sip_vector.specs.declared.update.Update.{Update}
 use Rattle.sip_wire.specs.Versions.{Speaks, deepest}
 use Rattle.sip_wire.specs.declared.version.Version.{Version}
 use Rattle.sip_wire.proofs.Asking.{needed-speaks}
-use Rattle.sip_verifier.specs.QuerySeats.{RunsOn, does_fit, keeps}
+use Rattle.sip_verifier.specs.QuerySeats.{RunningNumbers, RunsOn, keeps}
+use Rattle.sip_above.specs.Questions as larges
 use Rattle.sip_verifier.proofs.SeatsHead.{depth-shallow}
 use Rattle.sip_questions.specs.Promises.{CanPose}
 use Rattle.sip_questions.specs.Questions.{queries_among, version_for}
 use Rattle.sip_questions.specs.Sittings.{query_like}
 use Rattle.sip_questions.specs.declared.question.Question.{Question}
 use Rattle.sip_questions.specs.declared.question.Question.TheVariants as questions
-use Rattle.sip_sketch.specs.Seats.{numbers_kept, query_of}
+use Rattle.sip_sketch.specs.Seats.{beside, numbers_kept, query_of, side_of}
 use Rattle.sip_sketch.specs.Sketches.{IsSketch, SeatValues, SketchValues, byte}
-use Rattle.sip_sketch.specs.Standing.{SeatStands}
+use Rattle.sip_sketch.specs.Standing.{SeatStands, Stands}
 use Rattle.sip_sketch.specs.declared.kind.SeatKind.{SeatKind}
 use Rattle.sip_sketch.proofs.Whole.{head_from, ranged_from}
-use Rattle.sip_ask.specs.Choosing.{fits, kind_for, kind_of}
-use Rattle.sip_ask.proofs.Premises.{lookup-fits, moment-fits, query-fits}
+use Rattle.sip_ask.specs.Choosing.{fits, kind_for, kind_of, weight_told}
+use Rattle.sip_ask.specs.inside.Seating.{Serves}
+use Rattle.sip_ask.proofs.Premises.{large-fits, lookup-fits, moment-fits, query-fits}
 
 -- ---- the kind of a question
 
--- the query that is like it is of a kind whose check stands here
-like-built : (depth : ℕ) (question : Question) → IsTrue (fits depth question) → IsTrue (is_built (query_like question))
-like-built depth (questions.Query query) fit = (and_parts (is_built query) (does_fit depth query) fit).0
-like-built depth (questions.Lookup lookup) fit = refl
-like-built depth (questions.Moment moment) fit = refl
+kind-keeps : (query : Query) (w first second : ℕ) → IsTrue (keeps query (beside w (numbers_kept (kind_of query) first second)))
+kind-keeps (Sub lo hi) w first second = refl
+kind-keeps (Range side lo hi) w first second = refl
+kind-keeps (F2 side) w first second = refl
+kind-keeps Inner w first second = refl
+kind-keeps (Heavy side at_least) w first second = refl
+kind-keeps (Share side num den) w first second = refl
+kind-keeps (Above side at_least) w first second = refl
 
-kind-keeps : (query : Query) (first second : ℕ) → IsTrue (is_built query) → IsTrue (keeps query (numbers_kept (kind_of query) first second))
-kind-keeps (Sub lo hi) first second built = refl
-kind-keeps (Range side lo hi) first second built = refl
-kind-keeps (F2 side) first second built = refl
-kind-keeps Inner first second built = refl
-kind-keeps (Heavy side at_least) first second built = refl
-kind-keeps (Share side num den) first second built = refl
-kind-keeps (Above side at_least) first second built = absurd (let no : false ≡ true = built in cc)
-
-kind-runs : (depth : ℕ) (stream : List Update) (query : Query) (block : List ℕ) (first second : ℕ) → IsTrue (is_built query)
-    → RunsOn depth stream (query_of (kind_of query)) block (numbers_kept (kind_of query) first second)
-    → RunsOn depth stream query block (numbers_kept (kind_of query) first second)
-kind-runs depth stream (Sub lo hi) block first second built runs = runs
-kind-runs depth stream (Range side lo hi) block first second built runs = runs
-kind-runs depth stream (F2 side) block first second built runs = runs
-kind-runs depth stream Inner block first second built runs = runs
-kind-runs depth stream (Heavy side at_least) block first second built runs = runs
-kind-runs depth stream (Share side num den) block first second built runs = runs
-kind-runs depth stream (Above side at_least) block first second built runs = absurd (let no : false ≡ true = built in cc)
+kind-runs : (depth : ℕ) (stream : List Update) (query : Query) (block : List ℕ) (w first second : ℕ)
+    → RunsOn depth stream (query_of (kind_of query)) block (beside w (numbers_kept (kind_of query) first second))
+    → RunsOn depth stream query block (beside w (numbers_kept (kind_of query) first second))
+kind-runs depth stream (Sub lo hi) block w first second runs = runs
+kind-runs depth stream (Range side lo hi) block w first second runs = runs
+kind-runs depth stream (F2 side) block w first second runs = runs
+kind-runs depth stream Inner block w first second runs = runs
+kind-runs depth stream (Heavy side at_least) block w first second runs = runs
+kind-runs depth stream (Share side num den) block w first second runs = runs
+kind-runs depth stream (Above side at_least) block w first second runs = runs
 
 -- ---- a seat that serves a question
 
 -- its numbers are of the question's kind
-pub served-keeps : (depth : ℕ) (question : Question) (seat : SeatValues) → IsTrue (fits depth question) → seat.kind ≡ kind_for question
-    → IsTrue (keeps (query_like question) (numbers_kept seat.kind seat.first seat.second))
-served-keeps depth question seat fit kind =
-    subst (λ (k : SeatKind). IsTrue (keeps (query_like question) (numbers_kept k seat.first seat.second))) (sym kind)
-    (kind-keeps (query_like question) seat.first seat.second (like-built depth question fit))
+pub served-keeps : (question : Question) (seat : SeatValues) (w : ℕ) → seat.kind ≡ kind_for question
+    → IsTrue (keeps (query_like question) (beside w (numbers_kept seat.kind seat.first seat.second)))
+served-keeps question seat w kind =
+    subst (λ (k : SeatKind). IsTrue (keeps (query_like question) (beside w (numbers_kept k seat.first seat.second)))) (sym kind)
+    (kind-keeps (query_like question) w seat.first seat.second)
 
--- and stand for the stream
-pub served-runs : (depth : ℕ) (stream : List Update) (question : Question) (seat : SeatValues) → IsTrue (fits depth question) → seat.kind ≡ kind_for question
-    → SeatStands depth stream seat
-    → RunsOn depth stream (query_like question) seat.block (numbers_kept seat.kind seat.first seat.second)
-served-runs depth stream question seat fit kind stands =
-    let own = subst (λ (k : SeatKind). RunsOn depth stream (query_of k) seat.block (numbers_kept k seat.first seat.second)) kind stands in
-    subst (λ (k : SeatKind). RunsOn depth stream (query_like question) seat.block (numbers_kept k seat.first seat.second)) (sym kind)
-    (kind-runs depth stream (query_like question) seat.block seat.first seat.second (like-built depth question fit) own)
+-- and stand for the stream, where the weight of the seat's side is told
+pub served-runs : (depth : ℕ) (stream : List Update) (question : Question) (seat : SeatValues) (w : ℕ) → seat.kind ≡ kind_for question
+    → w ≡ weight stream (side_of seat.kind) → SeatStands depth stream seat
+    → RunsOn depth stream (query_like question) seat.block (beside w (numbers_kept seat.kind seat.first seat.second))
+served-runs depth stream question seat w kind told stands =
+    let weighed = subst (λ (n : ℕ). RunsOn depth stream (query_of seat.kind) seat.block (beside n (numbers_kept seat.kind seat.first seat.second))) (sym told) stands in
+    let own = subst (λ (k : SeatKind). RunsOn depth stream (query_of k) seat.block (beside w (numbers_kept k seat.first seat.second))) kind weighed in
+    subst (λ (k : SeatKind). RunsOn depth stream (query_like question) seat.block (beside w (numbers_kept k seat.first seat.second))) (sym kind)
+    (kind-runs depth stream (query_like question) seat.block w seat.first seat.second own)
+
+-- the weight of a side is told
+pub told-weight : (s : SketchValues) (stream : List Update) (side : Side) → Stands stream s → weight_told s.tally side ≡ weight stream side
+told-weight s stream First stands = ap (λ (t : Tally). t.first) stands.told
+told-weight s stream Second stands = ap (λ (t : Tally). t.second) stands.told
+
+-- the numbers of a seat that serves a question are those of each stream that the sketch stands for
+pub stands_at : (s : SketchValues) (question : Question) (place : ℕ) (d : SeatValues) (w : ℕ) (block : List ℕ) (numbers : RunningNumbers) → Serves s question place
+    → w ≡ weight_told s.tally (side_of (get_or s.seats place d).kind) → block ≡ (get_or s.seats place d).block → numbers ≡ beside w (numbers_kept (get_or s.seats place d).kind (get_or s.seats place d).first (get_or s.seats place d).second)
+    → (stream : List Update) → Stands stream s → RunsOn s.depth stream (query_like question) block numbers
+stands_at s question place d w block numbers serves told same_block same_numbers stream stands =
+    let seat = get_or s.seats place d in
+    let weighs = told ∙ told-weight s stream (side_of seat.kind) stands in
+    let own = served-runs s.depth stream question seat w (serves.seat d).kind weighs (stands.seats place d serves.inside (serves.seat d).unused) in
+    rw (same_block, same_numbers) own
 
 -- ---- the version
 
@@ -91,6 +105,12 @@ all-pose version depth (questions.Query q ∷ more) fit speak =
     All-cons (CanPose version depth) (questions.Query q) more
     (query-fits depth q (All-head fits-all (questions.Query q) more fit), All-head (Speaks version depth) q (queries_among more) speak)
     (all-pose version depth more (All-tail fits-all (questions.Query q) more fit) (All-tail (Speaks version depth) q (queries_among more) speak))
+all-pose version depth (questions.Large l ∷ more) fit speak =
+    let fits-all : Question → Type 0 = λ x. IsTrue (fits depth x) in
+    let spoken : Query → Type 0 = Speaks version depth in
+    All-cons (CanPose version depth) (questions.Large l) more
+    (large-fits depth l (All-head fits-all (questions.Large l) more fit), All-head spoken (larges.query_of l) (queries_among more) speak)
+    (all-pose version depth more (All-tail fits-all (questions.Large l) more fit) (All-tail spoken (larges.query_of l) (queries_among more) speak))
 all-pose version depth (questions.Lookup l ∷ more) fit speak =
     let fits-all : Question → Type 0 = λ x. IsTrue (fits depth x) in
     All-cons (CanPose version depth) (questions.Lookup l) more (lookup-fits depth l (All-head fits-all (questions.Lookup l) more fit))

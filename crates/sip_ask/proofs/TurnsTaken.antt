@@ -4,7 +4,7 @@ use Rattle.std.specs.Prelude.{IfErr}
 use Rattle.std.specs.List.{AllZip}
 use Rattle.std.proofs.lemmas.List.{drop_more, take-append-drop}
 use Rattle.sip_ports.specs.Desk.{IsOfLink}
-use Rattle.sip_ports.specs.Ports.{GoesOn, outs}
+use Rattle.sip_ports.specs.Ports.{GoesOn, SendsWhole, outs}
 use Rattle.sip_ports.specs.declared.port.TalkEvent.{TalkEvent}
 use Rattle.sip_ports.proofs.TalkLemmas.{GoesOn-refl, GoesOn-trans}
 use Rattle.sip_vector.specs.Answers.{pairs}
@@ -22,12 +22,14 @@ use Rattle.sip_verifier.specs.declared.status.Status.TheVariants as runs
 use Rattle.sip_verifier.specs.runs.Askers.{Remaining}
 use Rattle.sip_verifier.specs.runs.Manners.{Manner}
 use Rattle.sip_verifier.specs.runs.Progress.{Checks}
-use Rattle.sip_questions.specs.Questions.{Answered, asking, to_query}
+use Rattle.sip_questions.specs.Questions.{Answered, asking, to_large, to_query}
+use Rattle.sip_above.specs.declared.large.Large.{Large}
+use Rattle.sip_above.specs.Questions.{query_of}
 use Rattle.sip_questions.specs.Sittings.{remaining_of}
 use Rattle.sip_questions.specs.declared.question.Question.{Question}
 use Rattle.sip_questions.specs.declared.question.Question.TheVariants as questions
 use Rattle.sip_sketch.specs.Sketches.{SeatValues, SketchValues, size_of}
-use Rattle.sip_ask.specs.Asking.{AsksAll, Came, IsStored, IsStoredInPart, StoresFirst, marked_by, steps_of}
+use Rattle.sip_ask.specs.Asking.{AsksAll, Came, IsStored, IsStoredInPart, StoresFirst, marked_by, none_of, steps_of}
 use Rattle.sip_ask.specs.Causes.{HasRisen, IsStop}
 use Rattle.sip_ask.specs.Choosing.{choice}
 use Rattle.sip_ask.specs.Marking.{mark, used_at}
@@ -138,27 +140,25 @@ module _ (m : Manner Question Answered) (s : SketchValues) (number : ℕ) (quest
   asked_came old mid new blank full place (Err runs.OutOfMemory) stored checks kept = inr (record { mid = mid; stored = stored; checks = checks })
   asked_came old mid new blank full place (Err _) stored checks kept = absurd checks
 
--- only a question for large entries is answered without being asked
-pub idle_query : (question : Question) → IsIdle question → (query : Query) × (question ≡ questions.Query query)
-idle_query (questions.Query query) idle = (query, refl)
-idle_query (questions.Lookup lookup) (t, idle) = absurd (let no = idle in cc)
-idle_query (questions.Moment moment) (t, idle) = absurd (let no = idle in cc)
+-- its line was written, or a front of it
+lined_as : (m : Manner Question Answered) (s : SketchValues) (number : ℕ) (question : Question) (old blank full : Option (List TalkEvent)) (r : Result (Unit {0}) AskStatus) (text : List ℕ)
+    → m.line question (none_of question) ≡ text → SendsWhole blank full r text → IfErr r IsReportStop → Came m s number question old old blank full None r
+lined_as m s number question old blank full (Ok x) text same says stops =
+    (GoesOn-refl old, subst (λ (l : List ℕ). GoesOn blank full (outs l)) (sym same) says)
+lined_as m s number question old blank full (Err (statuses.WriteFault ports.Report)) text same (n, less, went) stops =
+    (GoesOn-refl old, take n text, (drop n text, same ∙ sym (take-append-drop n text)), went)
+lined_as m s number question old blank full (Err statuses.OutOfMemory) text same (n, less, went) stops =
+    (GoesOn-refl old, take n text, (drop n text, same ∙ sym (take-append-drop n text)), went)
+lined_as m s number question old blank full (Err _) text same says stops = absurd stops
 
--- its line was written
 pub lined_came : (m : Manner Question Answered) (s : SketchValues) (number : ℕ) (question : Question) (old blank full : Option (List TalkEvent)) (r : Result (Unit {0}) AskStatus)
     → ((query : Query) → m.line (questions.Query query) (to_query (pairs [])) ≡ line query (pairs []))
+    → ((large : Large) → m.line (questions.Large large) (to_large []) ≡ line (query_of large) (pairs []))
     → SaysNone question blank full r → IfErr r IsReportStop → Came m s number question old old blank full None r
-lined_came m s number (questions.Query query) old blank full (Ok x) same says stops =
-    (GoesOn-refl old, subst (λ (l : List ℕ). GoesOn blank full (outs l)) (sym (same query)) says)
-lined_came m s number (questions.Query query) old blank full (Err (statuses.WriteFault ports.Report)) same (n, less, went) stops =
-    let text = line query (pairs []) in
-    (GoesOn-refl old, take n text, (drop n text, same query ∙ sym (take-append-drop n text)), went)
-lined_came m s number (questions.Query query) old blank full (Err statuses.OutOfMemory) same (n, less, went) stops =
-    let text = line query (pairs []) in
-    (GoesOn-refl old, take n text, (drop n text, same query ∙ sym (take-append-drop n text)), went)
-lined_came m s number (questions.Query query) old blank full (Err _) same says stops = absurd stops
-lined_came m s number (questions.Lookup lookup) old blank full r same says stops = absurd says
-lined_came m s number (questions.Moment moment) old blank full r same says stops = absurd says
+lined_came m s number (questions.Query query) old blank full r same also says stops = lined_as m s number (questions.Query query) old blank full r (line query (pairs [])) (same query) says stops
+lined_came m s number (questions.Large large) old blank full r same also says stops = lined_as m s number (questions.Large large) old blank full r (line (query_of large) (pairs [])) (also large) says stops
+lined_came m s number (questions.Lookup lookup) old blank full r same also says stops = absurd says
+lined_came m s number (questions.Moment moment) old blank full r same also says stops = absurd says
 
 -- in an equal manner
 pub came_as : (stream : List Update) (version now : Version) (depth levels : ℕ) → version ≡ now → depth ≡ levels

@@ -16,14 +16,19 @@ use Rattle.sip_vector.specs.declared.update.Side.{Side}
 use Rattle.sip_vector.specs.declared.update.Side.TheVariants.{First, Second}
 use Rattle.sip_vector.specs.declared.update.Update.{Update}
 use Rattle.sip_vector.proofs.Sides.{total-is}
+use Rattle.sip_vector.proofs.Splits.{weights_sum}
+use Rattle.sip_vector.specs.Splits.{weights}
 use Rattle.sip_wire.specs.declared.version.Version.{Version}
 use Rattle.sip_heavy.specs.Counting.{heavy_over}
 use Rattle.sip_heavy.specs.Protocol.{count_of}
+use Rattle.sip_above.specs.declared.large.Large.{Large}
+use Rattle.sip_above.specs.Manner.{protocol_of}
 use Rattle.sip_verifier.specs.Widths.{is_too_wide}
 use Rattle.sip_verifier.specs.runs.Asking.{question_of}
-use Rattle.sip_questions.specs.Questions.{asking, first_refusal, refusal_of, to_query}
+use Rattle.sip_questions.specs.Questions.{asking, first_refusal, refusal_of}
 use Rattle.sip_questions.specs.declared.question.Question.{Question}
 use Rattle.sip_questions.specs.declared.question.Question.TheVariants as questions
+use Rattle.sip_ask.specs.Asking.{none_of}
 use Rattle.sip_ask.specs.Choosing.{is_idle, is_signed, is_wide_of, weight_told}
 use Rattle.sip_ask.specs.inside.Seating.{IsTested}
 use Rattle.sip_ask.proofs.Premises.{any_below, high-told, not-below, told-negative}
@@ -48,7 +53,7 @@ sum-sizes (u ∷ us) none =
     ∙ ap (λ (z : ℤ). pos (nat_abs u.delta) +ℤ z) rest ∙ sum
     ∙ ap pos (sym (sum_by-cons (λ (x : Update). nat_abs x.delta) u us))
 
-weight-told : (stream : List Update) (side : Side) → weight_told (tally stream) side ≡ weight stream side
+pub weight-told : (stream : List Update) (side : Side) → weight_told (tally stream) side ≡ weight stream side
 weight-told stream First = refl
 weight-told stream Second = refl
 
@@ -75,6 +80,9 @@ one-refused stream number (questions.Query query) tested =
     let narrow = query-width stream query tested.unsigned ∙ tested.narrow in
     rw narrow refl
 one-refused stream number (questions.Lookup lookup) tested = refl
+one-refused stream number (questions.Large large) tested =
+    let narrow = ap (λ (n : ℕ). is_wide large.at_least (pos n)) (sym (weight-told stream large.side)) ∙ tested.narrow in
+    rw narrow refl
 one-refused stream number (questions.Moment moment) tested =
     let low = high-told stream moment.side moment.degree ∙ tested.low in
     rw low refl
@@ -100,7 +108,7 @@ module _ (version : Version) (depth : ℕ) (stream : List Update) (below : All (
   -- nothing is said for it, and it has no entry
   pub record AnswersNone (q : Question) (block : List ℕ) : Type 0 where
     pub silent : (asking version depth stream).said_for (question_of q block []) ≡ []
-    pub accepts : (asking version depth stream).Accepts (question_of q block []) (to_query (pairs []))
+    pub accepts : (asking version depth stream).Accepts (question_of q block []) (none_of q)
 
   vector-sum : (side : Side) → has_negative stream side ≡ false → int_sum (vector depth stream side) ≡ pos (weight_told (tally stream) side)
   vector-sum side none = sym (total-is depth stream side below) ∙ total-told stream side none
@@ -121,6 +129,15 @@ module _ (version : Version) (depth : ℕ) (stream : List Update) (below : All (
       let unasked = idle-protocol version depth (share_of num den (int_sum (vector depth stream side))) (vector depth stream side) block (weight_told (tally stream) side) sum here in
       record { silent = rw unasked refl; accepts = rw unasked (refl, refl) }
 
+  large-none : (large : Large) (block : List ℕ) → weight_told (tally stream) large.side < large.at_least → AnswersNone (questions.Large large) block
+  large-none large block less =
+      let count : count_of (int_sum (weights depth stream large.side)) ≡ weight_told (tally stream) large.side =
+      ap count_of (sym (weights_sum depth stream large.side below)) ∙ sym (weight-told stream large.side) in
+      let small : leb large.at_least (count_of (int_sum (weights depth stream large.side))) ≡ false =
+      lt-leb large.at_least (count_of (int_sum (weights depth stream large.side))) (omega (arith, count, less)) in
+      let unasked : (protocol_of version depth stream (question_of large block [])).unasked ≡ Some (pairs []) = rw small refl in
+      record { silent = rw unasked refl; accepts = rw unasked (refl, refl) }
+
   pub idle-none : (q : Question) (block : List ℕ) → is_signed (tally stream) q ≡ false → is_idle (tally stream) q ≡ true → AnswersNone q block
   idle-none (questions.Query (Heavy side at_least)) block own idle =
       heavy-none side at_least block (sym (told-negative stream side) ∙ own) (ltb-true (weight_told (tally stream) side) at_least idle)
@@ -132,5 +149,6 @@ module _ (version : Version) (depth : ℕ) (stream : List Update) (below : All (
   idle-none (questions.Query (F2 side)) block own idle = absurd cc
   idle-none (questions.Query Inner) block own idle = absurd cc
   idle-none (questions.Query (Above side at_least)) block own idle = absurd cc
+  idle-none (questions.Large large) block own idle = large-none large block (ltb-true (weight_told (tally stream) large.side) large.at_least idle)
   idle-none (questions.Lookup lookup) block own idle = absurd cc
   idle-none (questions.Moment moment) block own idle = absurd cc

@@ -24,8 +24,9 @@ use Rattle.sip_verifier.specs.declared.status.Status.{Status}
 use Rattle.sip_verifier.specs.declared.status.Status.TheVariants as runs
 use Rattle.sip_verifier.specs.runs.Manners.{Manner}
 use Rattle.sip_verifier.specs.runs.Progress.{Checks}
-use Rattle.sip_questions.specs.Questions.{Answered, asking, to_query, version_for}
+use Rattle.sip_questions.specs.Questions.{Answered, asking, to_large, to_query, version_for}
 use Rattle.sip_questions.specs.declared.question.Question.{Question}
+use Rattle.sip_questions.specs.declared.question.Question.TheVariants as questions
 use Rattle.sip_sketch.specs.Loaded.{IsBadFile}
 use Rattle.sip_sketch.specs.Sketches.{IsSketch, SketchValues, spelled_file}
 use Rattle.sip_sketch.specs.Standing.{Stands}
@@ -40,6 +41,11 @@ use Rattle.sip_ask.specs.declared.status.AskStatus.TheVariants as statuses
 abbrev pub marked_by : Option ℕ → SketchValues → SketchValues
 marked_by None s = s
 marked_by (Some place) s = mark place s
+
+-- the answer that there is no entry, in the form that a question's kind has
+abbrev pub none_of : Question → Answered
+none_of (questions.Large large) = to_large []
+none_of _ = to_query (pairs [])
 
 -- ---- what was stored
 
@@ -90,11 +96,11 @@ module _ (m : Manner Question Answered) (s : SketchValues) (number : ℕ) (quest
 
   -- nothing is asked: the line says that there is no entry, or a front of it was written
   abbrev pub IsLined : Type 0
-  IsLined = GoesOn old new [] × GoesOn blank full (outs (m.line question (to_query (pairs []))))
+  IsLined = GoesOn old new [] × GoesOn blank full (outs (m.line question (none_of question)))
 
   abbrev pub IsLinedInPart : Type 0
   IsLinedInPart = GoesOn old new [] × (part : List ℕ)
-      × IsPrefix part (m.line question (to_query (pairs []))) × GoesOn blank full (outs part)
+      × IsPrefix part (m.line question (none_of question)) × GoesOn blank full (outs part)
 
   -- what came of it
   abbrev pub Came : Option ℕ → Result (Unit {0}) AskStatus → Type 0

@@ -11,7 +11,8 @@ use Rattle.sip_vector.specs.declared.tally.Tally.{Tally}
 use Rattle.sip_vector.specs.declared.update.Side.{Side}
 use Rattle.sip_vector.specs.declared.update.Side.TheVariants.{First, Second}
 use Rattle.sip_wire.specs.Table.{most_degree}
-use Rattle.sip_verifier.specs.QuerySeats.{can_be_asked}
+use Rattle.sip_verifier.specs.QuerySeats.{can_be_asked, does_fit}
+use Rattle.sip_above.specs.Questions.{query_of}
 use Rattle.sip_lookup.specs.Lookups.{item_of}
 use Rattle.sip_moments.specs.Moments.{is_too_high, least_degree}
 use Rattle.sip_questions.specs.Sittings.{query_like}
@@ -45,7 +46,7 @@ kind_of (queries.F2 side) = kinds.Sums side
 kind_of queries.Inner = kinds.Products
 kind_of (queries.Heavy side at_least) = kinds.Heavy side
 kind_of (queries.Share side num den) = kinds.Heavy side
-kind_of (queries.Above side at_least) = kinds.Heavy side
+kind_of (queries.Above side at_least) = kinds.Above side
 
 -- the kind that serves a question: that of the query that is like it
 abbrev pub kind_for : Question → SeatKind
@@ -57,8 +58,9 @@ fits depth (questions.Query query) = can_be_asked depth query
 fits depth (questions.Lookup lookup) = nat_lt (item_of lookup) (2 ^ depth)
 fits depth (questions.Moment moment) =
     nat_le least_degree moment.degree && nat_le moment.degree most_degree
+fits depth (questions.Large large) = does_fit depth (query_of large)
 
--- The side whose large entries a query asks for, and how large they are at least, by what is told
+-- The side whose heavy hitters a query asks for, and how large they are at least, by what is told
 -- of the stream: the total of a side of which no delta was below 0 is its weight.
 abbrev pub large_of : Tally → Query → Option (Side × ℕ)
 large_of t (queries.Heavy side at_least) = Some (side, at_least)
@@ -66,14 +68,17 @@ large_of t (queries.Share side num den) =
     Some (side, share_of num den (pos (weight_told t side)))
 large_of t _ = None
 
+-- the same of a question for large entries too
 abbrev pub large : Tally → Question → Option (Side × ℕ)
 large t (questions.Query query) = large_of t query
 large t (questions.Lookup lookup) = None
 large t (questions.Moment moment) = None
+large t (questions.Large l) = Some (l.side, l.at_least)
 
--- it asks for large entries of a side that had a delta below 0
+-- it asks for heavy hitters of a side that had a delta below 0
 abbrev pub is_signed : Tally → Question → Bool
-is_signed t question = on (large t question) false (λ x. negative_told t x.0)
+is_signed t (questions.Query query) = on (large_of t query) false (λ x. negative_told t x.0)
+is_signed t _ = false
 
 -- it asks for entries that are larger than all of the side together, so that there is none
 abbrev pub is_idle : Tally → Question → Bool
@@ -88,6 +93,7 @@ abbrev pub is_high_of : Tally → Question → Bool
 is_high_of t (questions.Query query) = false
 is_high_of t (questions.Lookup lookup) = false
 is_high_of t (questions.Moment moment) = is_too_high (weight_told t moment.side) moment.degree
+is_high_of t (questions.Large l) = false
 
 -- ---- its seat
 

@@ -3,7 +3,8 @@
 -- Let the file be that of a sketch which stands for a stream and has seats for questions that may
 -- be asked of it. Let the link give what an honest helper sends, or a front of it, and not end:
 -- what the sketch has of its stream, and then the replies at the blocks of the seats. The helper
--- may keep other records that have the same vectors, as the same ones in another order. If no fault
+-- may keep other records that have the same vectors of values and of weights, as the same ones in
+-- another order. If no fault
 -- rises and no other process has the sketch, then each question is accepted, and the report has the
 -- stream's own answers; or memory ran out.
 use Rattle.std.specs.Prelude.{◌≡◌, ◌≢◌, ◌⊎◌, ℕ, ◌≤◌, ⊤, List, ◌++◌, length, map, flat_map, All}
@@ -14,6 +15,7 @@ use Rattle.sip_ports.specs.Desk.{may_hold}
 use Rattle.sip_ports.specs.Ports.{Rose, heard, outs}
 use Rattle.sip_ports.specs.declared.port.TalkEvent.{TalkEvent}
 use Rattle.sip_ports.specs.declared.port.TalkEvent.TheVariants.{Ended}
+use Rattle.sip_vector.specs.Splits.{weights}
 use Rattle.sip_vector.specs.Streams.{vector}
 use Rattle.sip_vector.specs.Vectors.{nonzero_within}
 use Rattle.sip_vector.specs.declared.query.Query.TheVariants.{Sub}
@@ -66,6 +68,7 @@ pub record IsHonest (asked : List Question) (start : Option (List ℕ))
   pub few : All (HasRoom s.depth stream) asked
   pub store : List Update
   pub vectors : (side : Side) → vector s.depth store side ≡ vector s.depth stream side
+  pub heavy : (side : Side) → weights s.depth store side ≡ weights s.depth stream side
   pub heard : IsPrefix (heard events) (honest_sent asked s places store)
   pub lasts : All (λ e. e ≢ Ended) events
 

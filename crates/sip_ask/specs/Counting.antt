@@ -17,6 +17,7 @@ use Rattle.sip_wire.specs.declared.version.Version.{Version}
 use Rattle.sip_verifier.specs.CountClause.{accepts_in}
 use Rattle.sip_verifier.specs.JointClause.{asked_by}
 use Rattle.sip_verifier.specs.Kinds.{kind_row}
+use Rattle.sip_above.specs.Manner as larges
 use Rattle.sip_lookup.specs.AcceptsLook.{accepts_look, is_right}
 use Rattle.sip_moments.specs.Manner as moments
 use Rattle.sip_questions.specs.Questions.{Posed}
@@ -47,11 +48,16 @@ counted_by depth a (questions.Moment moment) = record {
   is_right = moments.is_right_for a.version depth a.stream moment;
   bound = moments.bound_of depth moment;
 }
+counted_by depth a (questions.Large large) = record {
+  accepts = larges.accepts_at a.version depth a.stream large;
+  is_right = larges.is_right_for a.version depth a.stream large;
+  bound = larges.bound_of depth;
+}
 
 abbrev pub counted : ℕ → Asked → CountedQuestion
 counted depth a = counted_by depth a a.question
 
--- What a count asks of it: the stream is legal, the question fits, large entries are asked for only
+-- What a count asks of it: the stream is legal, the question fits, heavy hitters are asked for only
 -- of a side that had no delta below 0, and a moment only where a claim has room. An ask tests all
 -- of that.
 pub record IsCounted (depth : ℕ) (a : Asked) : Type 0 where

@@ -73,6 +73,7 @@ fn say_none<K: Sink>(question: &Question, report: &mut K) -> Result<(), AskStatu
 {
     match question {
         Question::Query(query) => on_report(write_pairs(report, query, &[])),
+        Question::Large(large) => on_report(write_pairs(report, &large.query(), &[])),
         _ => unreachable!(),
     }
 }

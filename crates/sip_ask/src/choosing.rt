@@ -7,7 +7,8 @@ ghost use Rattle.sip_vector.specs.Tallies.{IsSound};
 ghost use Rattle.sip_wire.specs.Table.{most_queries};
 ghost use Rattle.sip_sketch.specs.Sketches.{IsSketch};
 ghost use Rattle.sip_ask.specs.Choosing.{all_pass, choice, fits, fits_at, free_from, is_free};
-ghost use Rattle.sip_ask.specs.Choosing.{is_place, kind_for, kind_of, large, negative_told};
+ghost use Rattle.sip_ask.specs.Choosing.{is_place, is_signed, kind_for, kind_of, large};
+ghost use Rattle.sip_ask.specs.Choosing.{negative_told};
 ghost use Rattle.sip_ask.specs.Choosing.{seat_for, seats_for, small_at, weight_told};
 
 use crate::AskStatus;
@@ -22,8 +23,8 @@ use sip_wire::{MOST_QUERIES, Version};
 /// asked.
 pub type Places = ArrayVec<Option<usize>, MOST_QUERIES>;
 
-// The weight of a side.
-fn weight_of(tally: &Tally, side: Side) -> u64
+/// The weight of a side, as it is told of the stream.
+pub fn weight_of(tally: &Tally, side: Side) -> u64
     ensures { result ≡ weight_told tally.now side }
 {
     match side {
@@ -50,9 +51,8 @@ fn kind_of(query: &Query) -> SeatKind
         Query::Sub { .. } => SeatKind::Entries,
         Query::Range { side, .. } | Query::F2 { side } => SeatKind::Sums(*side),
         Query::Inner => SeatKind::Products,
-        Query::Heavy { side, .. } | Query::Share { side, .. } | Query::Above { side, .. } => {
-            SeatKind::Heavy(*side)
-        }
+        Query::Heavy { side, .. } | Query::Share { side, .. } => SeatKind::Heavy(*side),
+        Query::Above { side, .. } => SeatKind::Above(*side),
     }
 }
 
@@ -76,7 +76,20 @@ fn large(tally: &Tally, question: &Question) -> Option<(Side, u64)>
             let total = weight_of(tally, *side) as i64;
             Some((*side, share_of(total, *num, *den)))
         }
+        Question::Large(large) => Some((large.side, large.at_least)),
         _ => None,
+    }
+}
+
+// Whether a question asks for heavy hitters of a side that had a delta below 0.
+fn is_signed(tally: &Tally, question: &Question) -> bool
+    ensures { result ≡ is_signed tally.now question.now }
+{
+    match question {
+        Question::Query(Query::Heavy { side, .. } | Query::Share { side, .. }) => {
+            had_negative(tally, *side)
+        }
+        _ => false,
     }
 }
 
@@ -126,10 +139,10 @@ fn seat_for(
 {
     let number = taken.len() as u8 + 1;
     let tally = sketch.tally();
+    if is_signed(&tally, question) {
+        return Err(AskStatus::Signed { query: number });
+    }
     if let Some((side, at_least)) = large(&tally, question) {
-        if had_negative(&tally, side) {
-            return Err(AskStatus::Signed { query: number });
-        }
         if weight_of(&tally, side) < at_least {
             return Ok(None);
         }

@@ -24,7 +24,7 @@ ghost use Rattle.sip_ask.specs.declared.status.AskStatus.TheVariants as statuses
 
 use crate::AskStatus;
 use crate::asking::Asking;
-use crate::choosing::{Places, choose};
+use crate::choosing::{Places, choose, weight_of};
 use crate::opening::open;
 use arrayvec::ArrayVec;
 use sip_ports::{Desk, DeskStop, Sink};
@@ -66,8 +66,10 @@ pub fn version_for(sketch: &Sketch, questions: &[Question]) -> Version
 {
     let mut queries: ArrayVec<Query, MOST_QUERIES> = ArrayVec::new();
     for question in questions {
-        if let Question::Query(query) = question {
-            queries.push(*query);
+        match question {
+            Question::Query(query) => queries.push(*query),
+            Question::Large(large) => queries.push(large.query()),
+            _ => {}
         }
     }
     Version::needed(sketch.depth(), &queries)
@@ -87,7 +89,9 @@ fn seat_of(sketch: &Sketch, question: Question, place: usize) -> QuestionSeat
     ensures free { (number : ℕ)
         → refusal_at (weight_told sketch.now.tally) number result ≡ None }
 {
-    QuestionSeat::of(question, sketch.seats()[place].running())
+    let seat = &sketch.seats()[place];
+    let weight = weight_of(&sketch.tally(), seat.kind().side());
+    QuestionSeat::of(question, seat.running(weight))
 }
 
 // The same of each question that takes a seat.

@@ -61,7 +61,7 @@ pub mod laws;
 mod opening;
 mod status;
 
-pub use choosing::{Places, choose};
+pub use choosing::{Places, choose, weight_of};
 pub use desk_asking::{ask, version_for};
 pub use opening::{held_by, recall};
 pub use status::{AskPort, AskStatus};

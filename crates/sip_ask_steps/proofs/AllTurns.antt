@@ -1,18 +1,10 @@
 -- The turns of all questions, one after another.
 use Rattle.std.proofs.Common.{◌≡◌, ℕ, zero, suc, ◌+◌, ◌<◌, ◌≤◌, Option, List, [], ◌∷◌, ◌++◌, length, drop, get_or, sym, ap, subst, ◌∙◌, append_assoc, append-nil, arith}
-use Rattle.std.specs.Prelude.{IsTrue}
 use Rattle.std.specs.List.{AllZip}
 use Rattle.std.proofs.lemmas.List.{drop_all, drop_more}
-use Rattle.sip_vector.specs.declared.update.Update.{Update}
-use Rattle.sip_verifier.specs.QuerySeats.{RunningNumbers, RunsOn}
-use Rattle.sip_questions.specs.Sittings.{query_like}
 use Rattle.sip_questions.specs.declared.question.Question.{Question}
-use Rattle.sip_sketch.specs.Seats.{numbers_kept}
-use Rattle.sip_sketch.specs.Sketches.{SeatValues, SketchValues}
-use Rattle.sip_sketch.specs.Standing.{Stands}
-use Rattle.sip_ask.specs.Choosing.{fits}
-use Rattle.sip_ask.specs.inside.Seating.{Serves, Takes}
-use Rattle.sip_ask.proofs.Served.{served-runs}
+use Rattle.sip_sketch.specs.Sketches.{SketchValues}
+use Rattle.sip_ask.specs.inside.Seating.{Takes}
 use Rattle.sip_ask_steps.specs.Plans.{Plan}
 use Rattle.sip_ask_steps.specs.Steps.{AreTurns, IsTurn}
 use Rattle.sip_ask_steps.specs.declared.turn.Turn.{Turn}
@@ -41,12 +33,3 @@ module _ (p : Plan) (asked : List Question) (places : List (Option ℕ)) where
   pub whole_all : (i : ℕ) (turns : List Turn) → length asked ≤ i → length places ≤ i → Whole i turns → AreTurns p asked places turns
   whole_all i turns la lp so =
       subst (AreTurns p asked places) (append-nil turns) (so [] (rw (drop_all i asked la, drop_all i places lp) tt))
-
--- the numbers of a seat that serves a question are those of each stream that the sketch stands for
-pub stands_at : (s : SketchValues) (question : Question) (place : ℕ) (d : SeatValues) (block : List ℕ) (numbers : RunningNumbers) → Serves s question place → IsTrue (fits s.depth question)
-    → block ≡ (get_or s.seats place d).block → numbers ≡ numbers_kept (get_or s.seats place d).kind (get_or s.seats place d).first (get_or s.seats place d).second
-    → (stream : List Update) → Stands stream s → RunsOn s.depth stream (query_like question) block numbers
-stands_at s question place d block numbers serves fit same_block same_numbers stream stands =
-    let seat = get_or s.seats place d in
-    let own = served-runs s.depth stream question seat fit (serves.seat d).kind (stands.seats place d serves.inside (serves.seat d).unused) in
-    rw (same_block, same_numbers) own

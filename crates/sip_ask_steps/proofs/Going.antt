@@ -152,7 +152,7 @@ module _ (p : Plan) (events : List TalkEvent) (m : SketchAsking) (is : IsDone p 
 
       by_step : (step : Step) → At p events m step → wants_at step ≡ wants.Answers → IsPast p m.sketch m.number m.left.items events
       by_step (at.Answered given a) own e = own.1
-      by_step (at.Idle query) own e = own.1
+      by_step (at.Idle given) own e = own.1
       by_step (at.Asking a) own e = absurd (by_asking (questioned.is_due_at a) e)
       by_step at.Opening own e = absurd cc
       by_step at.Hearing own e = absurd cc
@@ -199,7 +199,7 @@ waits_hears p events m is waits = by_step m.step is.at waits
     by_step at.Opening own e = absurd cc
     by_step (at.Storing a) own e = absurd cc
     by_step (at.Answered given a) own e = absurd cc
-    by_step (at.Idle query) own e = absurd cc
+    by_step (at.Idle given) own e = absurd cc
     by_step at.Leaving own e = absurd cc
     by_step (at.Ended status) own e = absurd cc
 
@@ -209,7 +209,7 @@ hears_waits (at.Asking a) hears = ap (λ (b : Bool). if b then wants.Due else wa
 hears_waits at.Opening hears = absurd cc
 hears_waits (at.Storing a) hears = absurd cc
 hears_waits (at.Answered given a) hears = absurd cc
-hears_waits (at.Idle query) hears = absurd cc
+hears_waits (at.Idle given) hears = absurd cc
 hears_waits at.Leaving hears = absurd cc
 hears_waits (at.Ended status) hears = absurd cc
 
@@ -221,7 +221,7 @@ end_none (at.Asking a) never other = absurd (other a refl)
 end_none at.Opening never other = (refl, refl)
 end_none (at.Storing a) never other = (refl, refl)
 end_none (at.Answered given a) never other = (refl, refl)
-end_none (at.Idle query) never other = (refl, refl)
+end_none (at.Idle given) never other = (refl, refl)
 end_none at.Leaving never other = (refl, refl)
 end_none (at.Ended status) never other = (refl, refl)
 
@@ -233,7 +233,7 @@ due_none m at.Leaving never other last = absurd (last refl)
 due_none m at.Hearing never other last = (refl, λ e. cc)
 due_none m (at.Storing a) never other last = (refl, λ e. cc)
 due_none m (at.Answered given a) never other last = (refl, λ e. cc)
-due_none m (at.Idle query) never other last = (refl, λ e. cc)
+due_none m (at.Idle given) never other last = (refl, λ e. cc)
 due_none m (at.Ended status) never other last = (refl, λ e. cc)
 
 pub store_none : (m : SketchAsking) (step : Step) → ((a : QuestionAsking) → step ≡ at.Storing a → ⊥) → (stored_at m step ≡ []) × (wants_at step ≢ wants.Stores)
@@ -246,14 +246,14 @@ store_none m (at.Asking a) never = (refl, by_due (questioned.is_due_at a))
     by_due true e = cc
     by_due false e = cc
 store_none m (at.Answered given a) never = (refl, λ e. cc)
-store_none m (at.Idle query) never = (refl, λ e. cc)
+store_none m (at.Idle given) never = (refl, λ e. cc)
 store_none m at.Leaving never = (refl, λ e. cc)
 store_none m (at.Ended status) never = (refl, λ e. cc)
 
 -- an answer is to be read where there is one
 pub answer_wants : (number : ℕ) (step : Step) → is_some (answer_at number step) ≡ true → wants_at step ≡ wants.Answers
 answer_wants number (at.Answered given a) some = refl
-answer_wants number (at.Idle query) some = refl
+answer_wants number (at.Idle given) some = refl
 answer_wants number at.Opening some = absurd cc
 answer_wants number at.Hearing some = absurd cc
 answer_wants number (at.Storing a) some = absurd cc
@@ -263,7 +263,7 @@ answer_wants number (at.Ended status) some = absurd cc
 
 pub wants_answer : (number : ℕ) (step : Step) → is_some (answer_at number step) ≡ false → wants_at step ≢ wants.Answers
 wants_answer number (at.Answered given a) none e = cc
-wants_answer number (at.Idle query) none e = cc
+wants_answer number (at.Idle given) none e = cc
 wants_answer number at.Opening none e = cc
 wants_answer number at.Hearing none e = cc
 wants_answer number (at.Storing a) none e = cc

@@ -1,11 +1,8 @@
 -- The next question has its turn.
 use Rattle.std.proofs.Common.{◌≡◌, ℕ, suc, ◌<◌, ◌≤◌, Option, Some, None, List, [], ◌∷◌, length, sym, ap, ◌∙◌, inr, arith}
 use Rattle.sip_ports.specs.declared.port.TalkEvent.{TalkEvent}
-use Rattle.sip_vector.specs.Answers.{pairs}
-use Rattle.sip_vector.specs.declared.query.Query.{Query}
 use Rattle.sip_wire.specs.declared.version.Version.{Version}
-use Rattle.sip_questions.specs.Questions.{to_query}
-use Rattle.sip_questions.specs.declared.asker.QuestionGiven.TheVariants as givens
+use Rattle.sip_questions.specs.declared.asker.QuestionGiven.{QuestionGiven}
 use Rattle.sip_questions.specs.declared.question.Question.{Question}
 use Rattle.sip_sketch.specs.Sketches.{SketchValues, size_of, spelled_file}
 use Rattle.sip_ask.specs.Marking.{mark}
@@ -51,24 +48,24 @@ module _ (p : Plan) (sketch : SketchValues) (number : ℕ) (left : List Turn) (e
     to_store next file marked is past = store_by next file marked is past.asked past.places past.before past.turns
 
   -- it is answered without being asked
-  idle_by : (query : Query) (asked : List Question) (places : List (Option ℕ)) → IsBefore p events sketch (suc number) asked places → AreTurns p asked places (turns.Idle query ∷ left)
-      → IsTold p events [] (suc number) (givens.Pairs query) × IsPast p sketch (suc number) left events
-  idle_by query [] [] b are = absurd are
-  idle_by query [] (x ∷ places) b are = absurd are
-  idle_by query (q ∷ asked) [] b are = absurd are
-  idle_by query (q ∷ asked) (Some own ∷ places) b are = absurd are.0
-  idle_by query (q ∷ asked) (None ∷ places) b are = (
+  idle_by : (given : QuestionGiven) (asked : List Question) (places : List (Option ℕ)) → IsBefore p events sketch (suc number) asked places → AreTurns p asked places (turns.Idle given ∷ left)
+      → IsTold p events [] (suc number) given × IsPast p sketch (suc number) left events
+  idle_by given [] [] b are = absurd are
+  idle_by given [] (x ∷ places) b are = absurd are
+  idle_by given (q ∷ asked) [] b are = absurd are
+  idle_by given (q ∷ asked) (Some own ∷ places) b are = absurd are.0
+  idle_by given (q ∷ asked) (None ∷ places) b are = (
     inr (record {
       question = q;
       next = next_of p events sketch (suc number) q asked None places b;
       idle = are.0.1;
-      none = ap (λ (x : Question). (x, to_query (pairs []))) (sym are.0.0);
+      none = are.0.0;
     }),
     record { asked = asked; places = places; before = idle_before p events sketch (suc number) q asked places b; turns = are.1 },
   )
 
-  pub turned_idle : (query : Query) → IsPast p sketch number (turns.Idle query ∷ left) events → IsTold p events [] (suc number) (givens.Pairs query) × IsPast p sketch (suc number) left events
-  turned_idle query past = idle_by query past.asked past.places past.before past.turns
+  pub turned_idle : (given : QuestionGiven) → IsPast p sketch number (turns.Idle given ∷ left) events → IsTold p events [] (suc number) given × IsPast p sketch (suc number) left events
+  turned_idle given past = idle_by given past.asked past.places past.before past.turns
 
 -- what is kept when a turn is taken
 pub kept_on : (p : Plan) (old new : SketchValues) (number : ℕ) (first : Turn) (left : List Turn) (version : Version) (room now : ℕ) → IsKept p old number (first ∷ left) version room → size_of new ≤ now

@@ -67,10 +67,10 @@ module _ (p : Plan) (plan : IsPlan p) where
   by_left : (events : List TalkEvent) (now : SketchValues) (number : ℕ) (asked : List Question) (places : List (Option ℕ)) (left : List Turn)
       → IsBefore p events now number asked places → AreTurns p asked places left → Ends p events (status_of left)
   by_left events now number [] [] [] b are = leaving_ends events now number b
-  by_left events now number (q ∷ asked) (None ∷ places) (turns.Idle query ∷ left) b are = idle_ends events now number q asked places b
+  by_left events now number (q ∷ asked) (None ∷ places) (turns.Idle given ∷ left) b are = idle_ends events now number q asked places b
   by_left events now number (q ∷ asked) (Some place ∷ places) (turns.Takes own a ∷ left) b are = storing_ends events now number q asked place places b
   by_left events now number (q ∷ asked) (None ∷ places) (turns.Takes own a ∷ left) b are = absurd are.0
-  by_left events now number (q ∷ asked) (Some place ∷ places) (turns.Idle query ∷ left) b are = absurd are.0
+  by_left events now number (q ∷ asked) (Some place ∷ places) (turns.Idle given ∷ left) b are = absurd are.0
   by_left events now number [] [] (t ∷ left) b are = absurd are
   by_left events now number [] (place ∷ places) [] b are = absurd are
   by_left events now number [] (place ∷ places) (t ∷ left) b are = absurd are
@@ -90,7 +90,7 @@ module _ (p : Plan) (plan : IsPlan p) where
       hand_ends p plan w.before events w.said w.now m.number w.place w.question w.hand.more w.hand.places w.hand.behind w.all w.link (λ given answer. Unit {0})
       (unanswered.Fault faults.PeerFault) is.waits
   by_step events m same (at.Answered given a) is = past_ends events m.sketch m.number m.left.items is.1
-  by_step events m same (at.Idle query) is = past_ends events m.sketch m.number m.left.items is.1
+  by_step events m same (at.Idle given) is = past_ends events m.sketch m.number m.left.items is.1
   by_step events m same at.Leaving (past, none) = subst (λ (left : List Turn). Ends p events (status_of left)) none (past_ends events m.sketch m.number m.left.items past)
   by_step events m same (at.Ended status) is = is
 

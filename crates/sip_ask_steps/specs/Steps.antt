@@ -19,13 +19,12 @@ use Rattle.sip_verifier.specs.declared.asker.Unanswered.{Unanswered}
 use Rattle.sip_verifier.specs.declared.asker.Unanswered.TheVariants as unanswered
 use Rattle.sip_verifier.specs.declared.session.SessionFault.TheVariants as faults
 use Rattle.sip_verifier.specs.runs.Asking.{IsInterrupted}
+use Rattle.sip_questions.specs.Sittings.{stated}
 use Rattle.sip_questions.specs.declared.asker.QuestionGiven.{QuestionGiven}
-use Rattle.sip_questions.specs.declared.asker.QuestionGiven.TheVariants as givens
 use Rattle.sip_questions.specs.declared.question.Question.{Question}
-use Rattle.sip_questions.specs.declared.question.Question.TheVariants as questions
 use Rattle.sip_sketch.specs.Sketches.{SketchValues, size_of, spelled_file}
 use Rattle.sip_sketch.specs.Standing.{Stands}
-use Rattle.sip_ask.specs.Asking.{AsksAll, StoresFirst, steps_of}
+use Rattle.sip_ask.specs.Asking.{AsksAll, StoresFirst, none_of, steps_of}
 use Rattle.sip_ask.specs.Choosing.{choice, is_idle}
 use Rattle.sip_ask.specs.Marking.{mark}
 use Rattle.sip_ask.specs.Turns.{block_at, held_by, held_heard, recall_bytes}
@@ -62,8 +61,8 @@ pub record IsSeated (p : Plan) (question : Question) (place : ℕ) (said : List 
 
 -- the turn of a question that takes a seat, or is answered without being asked
 abbrev pub IsTurn : Plan → Question → Option ℕ → Turn → Type 0
-IsTurn p question None (turns.Idle query) =
-    (question ≡ questions.Query query) × (is_idle p.sketch.tally question ≡ true)
+IsTurn p question None (turns.Idle given) =
+    (stated [] given ≡ (question, none_of question)) × (is_idle p.sketch.tally question ≡ true)
 IsTurn p question (Some place) (turns.Takes own a) =
     (own ≡ place) × (place < length p.sketch.seats) × IsSeated p question place [] a
 IsTurn p question _ _ = ⊥
@@ -170,7 +169,7 @@ wants_at at.Hearing = wants.Waits
 wants_at (at.Storing a) = wants.Stores
 wants_at (at.Asking a) = if questioned.is_due_at a then wants.Due else wants.Waits
 wants_at (at.Answered given a) = wants.Answers
-wants_at (at.Idle query) = wants.Answers
+wants_at (at.Idle given) = wants.Answers
 wants_at at.Leaving = wants.Due
 wants_at (at.Ended status) = wants.Ended status
 
@@ -208,7 +207,7 @@ stored_at m _ = []
 -- the answer to the question at hand, which has this number, and the pairs that are shown
 abbrev pub answer_at : ℕ → Step → Option (ℕ × QuestionGiven)
 answer_at number (at.Answered given a) = Some (number, given)
-answer_at number (at.Idle query) = Some (number, givens.Pairs query)
+answer_at number (at.Idle given) = Some (number, given)
 answer_at number _ = None
 
 abbrev pub pairs_at : Step → List Entry
@@ -237,8 +236,7 @@ At p events m (at.Storing a) =
 At p events m (at.Asking a) = IsAsking p m.sketch m.number m.left.items events a
 At p events m (at.Answered given a) =
     IsTold p events (questioned.pairs_of a) m.number given × Past p events m
-At p events m (at.Idle query) =
-    IsTold p events [] m.number (givens.Pairs query) × Past p events m
+At p events m (at.Idle given) = IsTold p events [] m.number given × Past p events m
 At p events m at.Leaving = Past p events m × (m.left.items ≡ [])
 At p events m (at.Ended status) = Ends p events status
 
@@ -297,14 +295,14 @@ Begins s asked (Err status) = (choice s asked ≡ Err status)
 -- what the turn of the next question wants, or the farewell
 abbrev pub wants_of : List Turn → Wants
 wants_of [] = wants.Due
-wants_of (turns.Idle query ∷ left) = wants.Answers
+wants_of (turns.Idle given ∷ left) = wants.Answers
 wants_of (turns.Takes place a ∷ left) = wants.Stores
 
 -- As which end of an ask it stands, where nothing more is done: as one that stopped for a fault of
 -- the port that is next.
 abbrev pub status_of : List Turn → AskStatus
 status_of [] = statuses.PeerFault
-status_of (turns.Idle query ∷ left) = statuses.WriteFault ports.Report
+status_of (turns.Idle given ∷ left) = statuses.WriteFault ports.Report
 status_of (turns.Takes place a ∷ left) = statuses.WriteFault ports.Sketch
 
 abbrev pub status_at : List Turn → Step → AskStatus
@@ -313,6 +311,6 @@ status_at left at.Hearing = statuses.PeerFault
 status_at left (at.Storing a) = statuses.WriteFault ports.Sketch
 status_at left (at.Asking a) = statuses.PeerFault
 status_at left (at.Answered given a) = status_of left
-status_at left (at.Idle query) = status_of left
+status_at left (at.Idle given) = status_of left
 status_at left at.Leaving = statuses.PeerFault
 status_at left (at.Ended status) = status

@@ -1,17 +1,15 @@
 -- What is told of a question that was answered.
 use Rattle.std.specs.Prelude.{◌≡◌, ◌⊎◌, ℕ, true, List, [], ◌++◌, Some, None}
 use Rattle.sip_ports.specs.declared.port.TalkEvent.{TalkEvent}
-use Rattle.sip_vector.specs.Answers.{pairs}
 use Rattle.sip_vector.specs.declared.update.Entry.{Entry}
 use Rattle.sip_vector.specs.declared.update.Update.{Update}
 use Rattle.sip_verifier.specs.runs.Askers.{IsGiven}
-use Rattle.sip_questions.specs.Questions.{to_query}
 use Rattle.sip_questions.specs.Sittings.{stated}
 use Rattle.sip_questions.specs.declared.asker.QuestionGiven.{QuestionGiven}
 use Rattle.sip_questions.specs.declared.question.Question.{Question}
 use Rattle.sip_sketch.specs.Sketches.{SketchValues}
 use Rattle.sip_sketch.specs.Standing.{Stands}
-use Rattle.sip_ask.specs.Asking.{steps_of}
+use Rattle.sip_ask.specs.Asking.{none_of, steps_of}
 use Rattle.sip_ask.specs.Choosing.{is_idle}
 use Rattle.sip_ask.specs.Turns.{block_at}
 use Rattle.sip_ask_steps.specs.Plans.{IsNext, Plan, manner_of}
@@ -39,7 +37,7 @@ module _ (p : Plan) (events : List TalkEvent) (entries : List Entry) (number : �
     pub question : Question
     pub next : IsNext p number question None
     pub idle : is_idle p.sketch.tally question ≡ true
-    pub none : stated entries given ≡ (question, to_query (pairs []))
+    pub none : stated entries given ≡ (question, none_of question)
 
   abbrev pub IsTold : Type 0
   IsTold = IsToldOn ⊎ IsToldIdle

@@ -15,9 +15,9 @@ ghost use Rattle.sip_ask_steps.specs.Steps.{AreTurns, Begins, IsTurn};
 use crate::machine::SketchAsking;
 use crate::step::Step;
 use crate::turn::Turn;
-use sip_ask::{AskStatus, Places, choose, version_for};
+use sip_ask::{AskStatus, Places, choose, version_for, weight_of};
 use sip_field::OutOfMemory;
-use sip_questions::Question;
+use sip_questions::{Question, QuestionGiven};
 use sip_sketch::Sketch;
 use sip_steps::QuestionAsking;
 use sip_wire::{Frame, Version};
@@ -29,7 +29,12 @@ fn idle(question: Question) -> Turn
     ensures { (p : Plan) → is_idle p.sketch.tally question ≡ true → IsTurn p question None result }
 {
     match question {
-        Question::Query(query) => Turn::Idle { query },
+        Question::Query(query) => Turn::Idle {
+            given: QuestionGiven::Pairs { query },
+        },
+        Question::Large(large) => Turn::Idle {
+            given: QuestionGiven::Large { large },
+        },
         _ => unreachable!(),
     }
 }
@@ -53,7 +58,9 @@ fn turn_of(
     let Some(place) = place else {
         return Ok(idle(question));
     };
-    let running = sketch.seats()[place].running();
+    let seat = &sketch.seats()[place];
+    let weight = weight_of(&sketch.tally(), seat.kind().side());
+    let running = seat.running(weight);
     let asking = QuestionAsking::begin(alloc, version, sketch.depth(), question, running)?;
     Ok(Turn::Takes { place, asking })
 }

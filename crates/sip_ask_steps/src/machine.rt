@@ -84,11 +84,7 @@ impl SketchAsking {
             → IfSome result (λ x. IsTold p events (pairs_at self.now.step) x.0 x.1) }
     {
         match &self.step {
-            Step::Answered { given, .. } => Some((self.number, *given)),
-            Step::Idle { query } => {
-                let query = *query;
-                Some((self.number, QuestionGiven::Pairs { query }))
-            }
+            Step::Answered { given, .. } | Step::Idle { given } => Some((self.number, *given)),
             _ => None,
         }
     }

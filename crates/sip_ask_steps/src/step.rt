@@ -3,7 +3,6 @@
 use sip_ask::AskStatus;
 use sip_questions::QuestionGiven;
 use sip_steps::QuestionAsking;
-use sip_vector::Query;
 
 /// How far a sketch is that is asked.
 #[derive(Drop)]
@@ -27,7 +26,7 @@ pub(crate) enum Step {
     },
     /// It was answered without being asked.
     Idle {
-        query: Query,
+        given: QuestionGiven,
     },
     /// All were answered, and the farewell is to be sent.
     Leaving,

@@ -85,7 +85,7 @@ impl SketchAsking {
         };
         self.number += 1;
         match turn {
-            Turn::Idle { query } => self.go(Step::Idle { query }),
+            Turn::Idle { given } => self.go(Step::Idle { given }),
             Turn::Takes { place, asking } => {
                 mark(&mut self.sketch, place, &mut self.file);
                 self.go(Step::Storing { asking });

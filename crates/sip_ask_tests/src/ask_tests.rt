@@ -190,10 +190,22 @@ pub(crate) const ROWS: [Row; 16] = [
     (&[SUB], HONEST, &[7], AskStatus::PeerFault, b"", true),
 ];
 
-// A desk with the sketch, and another end that says these bytes. Replacing it stops behind so many
+// The bytes of a sketch, and of the same with its first seat used.
+pub(crate) type Files<'a> = (&'a [u8], &'a [u8]);
+
+// The worked sketch with its first seat used.
+pub(crate) fn used() -> [u8; 152] {
+    let mut used = WATCHED;
+    used[53] = 1;
+    used[120..].copy_from_slice(&USED_DIGEST);
+    used
+}
+
+// A desk with a sketch, and another end that says these bytes. Replacing it stops behind so many
 // steps where it fails.
 pub(crate) fn desk(
     alloc: Global,
+    file: &[u8],
     said: &[&[u8]],
     fails: &[u64],
     stops: usize,
@@ -203,38 +215,40 @@ pub(crate) fn desk(
         replies.extend_from_slice(part)?;
     }
     let link = MemoryLink::new(alloc, replies, 10_000, fails.to_vec(alloc)?);
-    Ok(MemoryDesk::new(link, Some(WATCHED.to_vec(alloc)?), stops))
+    Ok(MemoryDesk::new(link, Some(file.to_vec(alloc)?), stops))
 }
 
 // Whether the file is the sketch, with its first seat used or not.
-pub(crate) fn is_stored(file: Option<&[u8]>, is_used: bool) -> bool {
-    let Some(file) = file else {
-        return false;
-    };
-    if !is_used {
-        return file == WATCHED.as_slice();
-    }
-    let mut used = WATCHED;
-    used[53] = 1;
-    used[120..].copy_from_slice(&USED_DIGEST);
-    file == used.as_slice()
+pub(crate) fn is_stored(files: Files, file: Option<&[u8]>, is_used: bool) -> bool {
+    file == Some(if is_used { files.1 } else { files.0 })
 }
 
-#[test]
-fn questions_are_asked(rt: HostRuntime) -> Result<(), Fail> {
-    for (number, row) in ROWS.iter().enumerate() {
+// Each row is asked of this sketch, and what comes of it is as it says.
+pub(crate) fn check_rows(
+    rt: &impl Abort,
+    alloc: Global,
+    files: Files,
+    rows: &[Row],
+) -> Result<(), Fail> {
+    for (number, row) in rows.iter().enumerate() {
         assert!(rt;
             !row.0.is_empty() && row.0.len() <= 16,
             "questions of row {number}"
         );
-        let mut desk = desk(rt.alloc(), row.1, row.2, 0)?;
-        let mut report = MemorySink::new(rt.alloc(), 10_000, Vec::new(rt.alloc()));
-        let status = ask(rt.alloc(), row.0, &mut desk, &mut report);
+        let mut desk = desk(alloc, files.0, row.1, row.2, 0)?;
+        let mut report = MemorySink::new(alloc, 10_000, Vec::new(alloc));
+        let status = ask(alloc, row.0, &mut desk, &mut report);
         assert!(rt; status == row.3, "status of row {number}");
         assert!(rt; report.bytes() == row.4, "report of row {number}");
-        assert!(rt; is_stored(desk.file(), row.5), "file of row {number}");
+        let stores = is_stored(files, desk.file(), row.5);
+        assert!(rt; stores, "file of row {number}");
     }
     Ok(())
+}
+
+#[test]
+fn questions_are_asked(rt: HostRuntime) -> Result<(), Fail> {
+    check_rows(&rt, rt.alloc(), (&WATCHED, &used()), &ROWS)
 }
 
 // Whether the file that was stored is on the disk before any byte of a question is sent: those
@@ -256,14 +270,15 @@ fn is_kept_before(talk: &[TalkEvent]) -> bool {
 // Each call of the desk fails in turn, and a replacement that fails stops at each of three places.
 #[test]
 fn a_seat_is_used_before_its_question(rt: HostRuntime) -> Result<(), Fail> {
+    let files: Files = (&WATCHED, &used());
     for call in 1..16u64 {
         for stops in [0, 153, 154] {
-            let mut desk = desk(rt.alloc(), HONEST, &[call], stops)?;
+            let mut desk = desk(rt.alloc(), &WATCHED, HONEST, &[call], stops)?;
             let mut report = MemorySink::new(rt.alloc(), 10_000, Vec::new(rt.alloc()));
             ask(rt.alloc(), &[SUB], &mut desk, &mut report);
             assert!(rt; is_kept_before(desk.talk()), "call {call}, {stops} steps");
             let file = desk.file();
-            let whole = is_stored(file, false) || is_stored(file, true);
+            let whole = is_stored(files, file, false) || is_stored(files, file, true);
             assert!(rt; whole, "file of call {call}, {stops} steps");
         }
     }
@@ -274,7 +289,7 @@ fn a_seat_is_used_before_its_question(rt: HostRuntime) -> Result<(), Fail> {
 // the challenge, reply 1 and the farewell. What is stored is a sketch with no seat left for it.
 #[test]
 fn a_talk_has_its_order(rt: HostRuntime) -> Result<(), Fail> {
-    let mut it = desk(rt.alloc(), HONEST, &[], 0)?;
+    let mut it = desk(rt.alloc(), &WATCHED, HONEST, &[], 0)?;
     let mut report = MemorySink::new(rt.alloc(), 10_000, Vec::new(rt.alloc()));
     ask(rt.alloc(), &[SUB], &mut it, &mut report);
     let talk = it.talk();

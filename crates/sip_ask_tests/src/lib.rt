@@ -6,4 +6,6 @@
 #[cfg(test)]
 mod ask_tests;
 #[cfg(test)]
+mod large_tests;
+#[cfg(test)]
 mod machine_tests;

@@ -1,7 +1,8 @@
 // The same sketch, asked without a link: what is done, in its order, is what an ask does.
 ghost use Rattle.sip_ask_steps.specs.Steps.{HasBegun};
 
-use crate::ask_tests::{ROWS, Row, desk, is_stored};
+use crate::ask_tests::{Files, ROWS, Row, desk, is_stored, used};
+use crate::large_tests::{LARGE, LARGE_ROWS, LARGE_USED};
 use sip_ask::ask;
 use sip_ask_steps::{SketchAsking, Wants};
 use sip_check_tests::sizes::piece_of;
@@ -98,12 +99,12 @@ fn drive(
 
 // What a row comes to without a link: whether it ends with its status, has the file and the talk of
 // an ask, in its order.
-fn is_as_asked(alloc: Global, row: &Row, size: usize) -> Result<[bool; 3], Fail> {
-    let mut own = desk(alloc, &[], &[], 0)?;
-    let mut other = desk(alloc, row.1, row.2, 0)?;
+fn is_as_asked(alloc: Global, files: Files, row: &Row, size: usize) -> Result<[bool; 3], Fail> {
+    let mut own = desk(alloc, files.0, &[], &[], 0)?;
+    let mut other = desk(alloc, files.0, row.1, row.2, 0)?;
     let mut report = MemorySink::new(alloc, 10_000, Vec::new(alloc));
     let said = row.1.concat(alloc)?;
-    let Ok(sketch) = Sketch::read(alloc, &WATCHED) else {
+    let Ok(sketch) = Sketch::read(alloc, files.0) else {
         return Ok([false; 3]);
     };
     if row.0.is_empty() || row.0.len() > 16 {
@@ -116,18 +117,17 @@ fn is_as_asked(alloc: Global, row: &Row, size: usize) -> Result<[bool; 3], Fail>
     };
     Ok([
         wants == Wants::Ended(row.3),
-        is_stored(own.file(), row.5),
+        is_stored(files, own.file(), row.5),
         log.as_slice() == other.talk(),
     ])
 }
 
 // Each row whose desk does not fail, in pieces of each size.
-#[test]
-fn a_sketch_is_asked_without_a_link_as_with_one(rt: HostRuntime) -> Result<(), Fail> {
-    for (number, row) in ROWS.iter().enumerate() {
+fn check_rows(rt: &impl Abort, alloc: Global, files: Files, rows: &[Row]) -> Result<(), Fail> {
+    for (number, row) in rows.iter().enumerate() {
         for size in [1, 2, 7, 1000] {
             if row.2.is_empty() {
-                let [ends, stores, talks] = is_as_asked(rt.alloc(), row, size)?;
+                let [ends, stores, talks] = is_as_asked(alloc, files, row, size)?;
                 assert!(rt; ends, "status of row {number} in pieces of {size}");
                 assert!(rt; stores, "file of row {number} in pieces of {size}");
                 assert!(rt; talks, "talk of row {number} in pieces of {size}");
@@ -135,4 +135,14 @@ fn a_sketch_is_asked_without_a_link_as_with_one(rt: HostRuntime) -> Result<(), F
         }
     }
     Ok(())
+}
+
+#[test]
+fn a_sketch_is_asked_without_a_link_as_with_one(rt: HostRuntime) -> Result<(), Fail> {
+    check_rows(&rt, rt.alloc(), (&WATCHED, &used()), &ROWS)
+}
+
+#[test]
+fn large_entries_are_asked_without_a_link_as_with_one(rt: HostRuntime) -> Result<(), Fail> {
+    check_rows(&rt, rt.alloc(), (&LARGE, &LARGE_USED), &LARGE_ROWS)
 }

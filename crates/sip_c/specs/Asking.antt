@@ -121,6 +121,13 @@ told_of number pairs (givens.Pairs query) = record {
   question = number;
   kind = 2;
 }
+told_of number pairs (givens.Large large) = record {
+  number = pos 0;
+  item = 0;
+  pairs = pairs;
+  question = number;
+  kind = 2;
+}
 told_of number pairs (givens.Lookup lookup (looks.Value value)) = record {
   number = value;
   item = 0;

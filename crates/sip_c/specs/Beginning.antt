@@ -27,7 +27,7 @@ HasPart w = (1 ≤ w.part) × (w.part ≤ w.parts)
 
 -- the code of a kind of seat
 abbrev pub IsKind : ℕ → Type 0
-IsKind code = (1 ≤ code) × (code ≤ 6)
+IsKind code = (1 ≤ code) × (code ≤ 8)
 
 -- a sketch can begin
 pub record CanBegin (w : Wanted) : Type 0 where

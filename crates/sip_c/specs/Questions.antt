@@ -30,6 +30,7 @@ sided_at kind side lo hi =
     else if kind == 5 then Some (questions.Query (queries.Heavy side lo))
     else if kind == 6 then share_at side lo hi
     else if kind == 10 then moment_at side lo
+    else if kind == 11 then Some (questions.Large (record { side = side; at_least = lo }))
     else None
 
 abbrev pub on_side : Option Side → (Side → Option Question) → Option Question

@@ -30,7 +30,7 @@ text_of status =
     else if status == 6 then codes "the call is not for this step"
     else if status == 40 then codes "not all parts of the stream are in"
     else if status == 41 then codes "a question does not fit the depth"
-    else if status == 42 then codes "a question is for large entries of a side with negatives"
+    else if status == 42 then codes "a question is for heavy hitters of a side with negatives"
     else if status == 43 then codes "no unused seat serves a question"
     else if status == 44 then codes "an answer may have too many entries"
     else if status == 45 then codes "a moment may be too high"

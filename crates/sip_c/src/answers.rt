@@ -39,7 +39,7 @@ pub(crate) fn told_of(question: u8, pairs: usize, given: QuestionGiven) -> Answe
 {
     let (number, item, pairs, kind) = match given {
         QuestionGiven::Number { value, .. } => (value, 0, 0, 1),
-        QuestionGiven::Pairs { .. } => (0, 0, pairs, 2),
+        QuestionGiven::Pairs { .. } | QuestionGiven::Large { .. } => (0, 0, pairs, 2),
         QuestionGiven::Lookup { answer, .. } => match answer {
             LookAnswer::Value(value) => (value, 0, 0, 1),
             LookAnswer::Nearest(Some(entry)) => (entry.value, entry.index, 0, 3),

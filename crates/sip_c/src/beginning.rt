@@ -31,6 +31,8 @@ fn kind_of(code: u8) -> Option<SeatKind>
         4 => Some(SeatKind::Products),
         5 => Some(SeatKind::Heavy(Side::First)),
         6 => Some(SeatKind::Heavy(Side::Second)),
+        7 => Some(SeatKind::Above(Side::First)),
+        8 => Some(SeatKind::Above(Side::Second)),
         _ => None,
     }
 }

@@ -7,6 +7,7 @@ ghost use Rattle.sip_c.specs.Questions.{AreQuestions, HaveNone, moment_at, quest
 ghost use Rattle.sip_c.specs.Questions.{share_at, side_at, sided_at};
 
 use arrayvec::ArrayVec;
+use sip_above::Large;
 use sip_lookup::Lookup;
 use sip_moments::Moment;
 use sip_questions::Question;
@@ -75,6 +76,7 @@ fn sided_of(kind: u8, side: Side, lo: u64, hi: u64) -> Option<Question>
         5 => Some(Question::Query(Query::Heavy { side, at_least: lo })),
         6 => share_of(side, lo, hi),
         10 => moment_of(side, lo),
+        11 => Some(Question::Large(Large { side, at_least: lo })),
         _ => None,
     }
 }

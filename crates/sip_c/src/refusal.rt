@@ -50,7 +50,7 @@ pub enum Refusal {
     NotWhole,
     /// A question does not fit the depth.
     Unfit,
-    /// A question is for large entries of a side that had a delta below 0.
+    /// A question is for heavy hitters of a side that had a delta below 0.
     Signed,
     /// No unused seat serves a question.
     NoSeat,

@@ -46,7 +46,7 @@ fn text_of(status: u32) -> &'static str
         6 => "the call is not for this step",
         40 => "not all parts of the stream are in",
         41 => "a question does not fit the depth",
-        42 => "a question is for large entries of a side with negatives",
+        42 => "a question is for heavy hitters of a side with negatives",
         43 => "no unused seat serves a question",
         44 => "an answer may have too many entries",
         45 => "a moment may be too high",

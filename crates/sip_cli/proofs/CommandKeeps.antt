@@ -79,7 +79,7 @@ module _ (before now : Snapshot) (status : Status) where
       → MomentPromises task (unkept x) before.faults now.faults status
   Keeps HelpMoments = HelpClause ServesMoments before.talk now.talk status
   Keeps (Panel task names) = Verified task
-  Keeps (Serve form) = ServeClause form before.first now.first before.talk now.talk status
+  Keeps (Serve form) = ServeClause form before.first now.first before.second now.second before.talk now.talk status
 
   -- there is an exchange that the ports tell
   abbrev pub Moves : Command → Type 0

@@ -11,7 +11,7 @@ use Rattle.sip_words.specs.declared.command.Command.{Command}
 use Rattle.sip_words.specs.declared.command.Command.TheVariants.{Verify, Help, Audit, Show, Convert, Gen, Lines, Widen, Play, Lookup, HelpLook, Moments, HelpMoments, Panel, Serve}
 use Rattle.sip_cli.specs.CommandClause.{CommandClause}
 use Rattle.sip_cli.specs.DoneClause.{DoneClause, Used, Rests, Wanted, before_done, after_done}
-use Rattle.sip_cli.specs.Statuses.{IsCopy, IsHelp, IsRendering, IsUnkept, ReadsTranscript}
+use Rattle.sip_cli.specs.Statuses.{IsCopy, IsHelp, IsRendering, IsUnkept, ReadsNoSeed}
 use Rattle.sip_cli.proofs.CommandKeeps.{known_by}
 
 -- ---- what is taken of the second source
@@ -63,7 +63,7 @@ module _ {A B L K C : Type 0} (first : Used A ℕ) (second : Used B ℕ) (peer :
   Leaves (Moments task) = Rests keep × Seeded
   Leaves HelpMoments = Helped
   Leaves (Panel task names) = Seeded
-  Leaves (Serve form) = Rests second × Rests report × Rests keep
+  Leaves (Serve form) = Rests report × Rests keep
 
   left_by_copies : (d : Command) → Leaves d → IsCopy d → Copied
   left_by_copies (Gen depth) l is = l
@@ -87,7 +87,7 @@ module _ {A B L K C : Type 0} (first : Used A ℕ) (second : Used B ℕ) (peer :
   left_by_audits d form l is = subst Leaves is l
 
   left_by_serve : (d : Command) (form : Form) → Leaves d → d ≡ Serve form
-      → Rests second × Rests report × Rests keep
+      → Rests report × Rests keep
   left_by_serve d form l is = subst Leaves is l
 
   left_by_shows : (d : Command) → Leaves d → IsRendering d → Rendered
@@ -95,7 +95,7 @@ module _ {A B L K C : Type 0} (first : Used A ℕ) (second : Used B ℕ) (peer :
   left_by_shows Convert l is = l
   left_by_shows _ l is = absurd is
 
-  left_seed : (d : Command) → Leaves d → (ReadsTranscript d → ⊥) → Seeded
+  left_seed : (d : Command) → Leaves d → (ReadsNoSeed d → ⊥) → Seeded
   left_seed (Verify task) l free = l
   left_seed Help l free = none_taken_of second l.1
   left_seed (Audit form) l free = absurd (free tt)
@@ -110,7 +110,7 @@ module _ {A B L K C : Type 0} (first : Used A ℕ) (second : Used B ℕ) (peer :
   left_seed (Moments task) l free = l.1
   left_seed HelpMoments l free = none_taken_of second l.1
   left_seed (Panel task names) l free = l
-  left_seed (Serve form) l free = none_taken_of second l.0
+  left_seed (Serve form) l free = absurd (free tt)
 
   done_so : (d : Command)
       → CommandClause (λ is. d ≡ is) (before_done first second peer report keep)

@@ -7,14 +7,14 @@ use Rattle.sip_questions.specs.declared.store_status.StoreStatus.{StoreStatus}
 use Rattle.sip_questions.specs.Stores.{ServesStore}
 use Rattle.sip_stream.specs.declared.form.Form.{Form}
 
-pub said_over_store : (form : Form) (store left : Option (List ℕ))
+pub said_over_store : (form : Form) (store left again unread : Option (List ℕ))
     (old new : Option (List TalkEvent)) (how : StoreStatus)
-    → ServesStore form store left old new how → (said : List TalkEvent) × GoesOn old new said
-said_over_store form store left old new how (inl unasked) = elim unasked.stops [
+    → ServesStore form store left again unread old new how → (said : List TalkEvent) × GoesOn old new said
+said_over_store form store left again unread old new how (inl unasked) = elim unasked.stops [
   | inl stops ↦ (stops.rest, stops.talk)
   | inr stops ↦ (_, stops.talk)
 ]
-said_over_store form store left old new how (inr (inl unheard)) = (_, unheard.talk)
-said_over_store form store left old new how (inr (inr (inl short))) = (_, short.talk)
-said_over_store form store left old new how (inr (inr (inr answers))) =
-    (_, GoesOn-trans old answers.between new _ _ answers.talk answers.serves.talk)
+said_over_store form store left again unread old new how (inr (inl unheard)) = (_, unheard.talk)
+said_over_store form store left again unread old new how (inr (inr (inl short))) = (_, short.talk)
+said_over_store form store left again unread old new how (inr (inr (inr answers))) =
+    (_, GoesOn-trans old answers.between new _ _ answers.talk answers.serves.serves.talk)

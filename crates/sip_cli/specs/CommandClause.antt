@@ -96,7 +96,8 @@ pub record CommandClause (Is : Command → Type 0) (before now : Snapshot) (stat
   pub help_moments : Is HelpMoments → HelpClause ServesMoments before.talk now.talk status
   -- `serve`: a talk of questions is served over the stream
   pub serve : (form : Form) → Is (Serve form)
-      → ServeClause form before.first now.first before.talk now.talk status
+      → ServeClause form before.first now.first before.second now.second before.talk now.talk
+      status
   -- ports that tell go on telling, so there is an exchange that they tell
   pub moves : IsTold before → (x : Exchange) × Tells before now x
   -- whatever the ports tell, a fault of a port comes only where its own count rose

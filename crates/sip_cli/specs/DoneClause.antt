@@ -3,7 +3,7 @@ use Rattle.std.specs.Prelude.{◌≡◌, ◌⊎◌, ℕ, List, Option}
 use Rattle.sip_words.specs.declared.command.Command.{Command}
 use Rattle.sip_words.specs.declared.command.Command.TheVariants.{Audit, Serve}
 use Rattle.sip_cli.specs.CommandClause.{CommandClause}
-use Rattle.sip_cli.specs.Statuses.{IsCopy, IsHelp, IsRendering, IsUnkept, ReadsTranscript}
+use Rattle.sip_cli.specs.Statuses.{IsCopy, IsHelp, IsRendering, IsUnkept, ReadsNoSeed}
 use Rattle.sip_ports.specs.declared.port.TalkEvent.{TalkEvent}
 use Rattle.sip_ports.specs.Ports.{Rose}
 use Rattle.sip_stream.specs.declared.form.Form.{Form}
@@ -64,8 +64,8 @@ pub record DoneClause {A B L K C : Type 0} (Is : Command → Type 0) (first : Us
       → Wanted first ⊎ Wanted report
   pub helps_apart : (command : Command) → Is command → IsHelp command
       → Rests first × Rests second × Rests report × Rests keep
-  -- one who serves a stream that it has reads that alone
-  pub serves_apart : (form : Form) → Is (Serve form) → Rests second × Rests report × Rests keep
+  -- one who serves a stream that it has reads that alone, twice
+  pub serves_apart : (form : Form) → Is (Serve form) → Rests report × Rests keep
   -- lookups and moments keep no record of their talk
   pub unkept : (command : Command) → Is command → IsUnkept command → Rests keep
   -- An audit leaves the link and the record of a talk alone, and to write what a transcript tells
@@ -73,6 +73,6 @@ pub record DoneClause {A B L K C : Type 0} (Is : Command → Type 0) (first : Us
   pub audits_apart : (form : Form) → Is (Audit form) → Rests peer × Rests keep
   pub shows_apart : (command : Command) → Is command → IsRendering command
       → Rests first × Rests peer × Rests keep
-  -- no more than 32 bytes of the second source are taken, but where it is a transcript
-  pub seed : ((command : Command) → Is command → ReadsTranscript command → ⊥)
+  -- no more than 32 bytes of the second source are taken, but where it is no seed
+  pub seed : ((command : Command) → Is command → ReadsNoSeed command → ⊥)
       → TakesAtMost 32 (second.told second.old) (second.told second.new)

@@ -69,23 +69,23 @@ IsCopy command.HelpMoments = ⊥
 IsCopy (command.Panel task names) = ⊥
 IsCopy (command.Serve form) = ⊥
 
--- the command reads a transcript
-abbrev pub ReadsTranscript : Command → Type 0
-ReadsTranscript (command.Verify task) = ⊥
-ReadsTranscript command.Help = ⊥
-ReadsTranscript (command.Audit form) = Unit {0}
-ReadsTranscript command.Show = Unit {0}
-ReadsTranscript command.Convert = Unit {0}
-ReadsTranscript (command.Gen depth) = ⊥
-ReadsTranscript (command.Lines form depth) = ⊥
-ReadsTranscript (command.Widen form depth) = ⊥
-ReadsTranscript (command.Play task name) = ⊥
-ReadsTranscript (command.Lookup task) = ⊥
-ReadsTranscript command.HelpLook = ⊥
-ReadsTranscript (command.Moments task) = ⊥
-ReadsTranscript command.HelpMoments = ⊥
-ReadsTranscript (command.Panel task names) = ⊥
-ReadsTranscript (command.Serve form) = ⊥
+-- the second source of the command is no seed, but a transcript, or a store that is read again
+abbrev pub ReadsNoSeed : Command → Type 0
+ReadsNoSeed (command.Verify task) = ⊥
+ReadsNoSeed command.Help = ⊥
+ReadsNoSeed (command.Audit form) = Unit {0}
+ReadsNoSeed command.Show = Unit {0}
+ReadsNoSeed command.Convert = Unit {0}
+ReadsNoSeed (command.Gen depth) = ⊥
+ReadsNoSeed (command.Lines form depth) = ⊥
+ReadsNoSeed (command.Widen form depth) = ⊥
+ReadsNoSeed (command.Play task name) = ⊥
+ReadsNoSeed (command.Lookup task) = ⊥
+ReadsNoSeed command.HelpLook = ⊥
+ReadsNoSeed (command.Moments task) = ⊥
+ReadsNoSeed command.HelpMoments = ⊥
+ReadsNoSeed (command.Panel task names) = ⊥
+ReadsNoSeed (command.Serve form) = Unit {0}
 
 -- the command writes what a transcript tells
 abbrev pub IsRendering : Command → Type 0

@@ -35,16 +35,18 @@ fn status_of(how: StoreStatus) -> Status
     }
 }
 
-/// Serves one talk of questions, over a stream that is read in a form.
+/// Serves one talk of questions, over a stream that is read in a form, and which is read again
+/// where large entries are asked for.
 #[inline(never)]
-pub(crate) fn serve<A: Source, L: Link>(
+pub(crate) fn serve<A: Source, B: Source, L: Link>(
     alloc: Global,
     form: Form,
     first: &mut A,
+    again: &mut B,
     peer: &mut L,
 ) -> Status
-    ensures serves { ServeClause form (A.left first.old) (A.left first.new)
-        (L.talk peer.old) (L.talk peer.new) result }
+    ensures serves { ServeClause form (A.left first.old) (A.left first.new) (B.left again.old)
+        (B.left again.new) (L.talk peer.old) (L.talk peer.new) result }
     ensures told { IsSome (A.left first.old) → IsSome (A.left first.new) }
     ensures said { (said : List AnyTalkEvent) × GoesOn (L.talk peer.old) (L.talk peer.new) said }
     ensures fault { (second seconds report reports keep keeps : ℕ)
@@ -52,7 +54,8 @@ pub(crate) fn serve<A: Source, L: Link>(
         (counts (A.faults first.new) seconds (L.faults peer.new) reports keeps) result }
     ensures listed { EndsServe result }
     ensures first { Lasts A.faults A.wants A.is_sure first.old first.new }
+    ensures again { Lasts B.faults B.wants B.is_sure again.old again.new }
     ensures peer { Lasts L.faults L.wants L.is_sure peer.old peer.new }
 {
-    status_of(serve_store(alloc, form, first, peer))
+    status_of(serve_store(alloc, form, first, again, peer))
 }

@@ -64,7 +64,8 @@ use std::alloc::Global;
 ///
 /// `serve STORED FROM TO`: serves one talk of questions of every kind over `peer`. It is told how
 /// many records of `first` to hear, and hears the first so many, or all where there are fewer; it
-/// says what they come to, and answers by these. Memory grows with the entries that are not 0.
+/// says what they come to, and answers by these. Where large entries are asked for, it reads them
+/// again from `second`. Memory grows with the entries that are not 0.
 ///
 /// `negatives` gets of `verify`, `play`, `panel` and `audit` which sides of the stream had a delta
 /// below 0, of those whose large entries are asked for.
@@ -124,7 +125,7 @@ pub fn obey<A: Source, B: Source, L: Link, K: Sink, C: Sink>(
         Command::HelpLook => help_look(alloc, peer),
         Command::Moments(task) => moment_stream(alloc, task, first, second, peer, report),
         Command::HelpMoments => help_moments(alloc, peer),
-        Command::Serve { form } => serve(alloc, *form, first, peer),
+        Command::Serve { form } => serve(alloc, *form, first, second, peer),
         Command::Panel(task, _) => {
             check_stream(alloc, task, first, second, peer, report, keep, negatives)
         }

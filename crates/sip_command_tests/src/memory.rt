@@ -121,6 +121,7 @@ pub fn run_in_memory(
         (Some (link_talk peer.old)) (Some (link_talk peer.new)) result }
     ensures served { (form : Form) → Spells words.now (Serve form)
         → ServeClause form (Some (source_left first.old)) (Some (source_left first.new))
+        (Some (source_left second.old)) (Some (source_left second.new))
         (Some (link_talk peer.old)) (Some (link_talk peer.new)) result }
 
     // A stored run is judged again by what moved, and its lines are new on the report.

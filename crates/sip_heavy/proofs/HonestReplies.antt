@@ -17,7 +17,7 @@ use Rattle.sip_replies.proofs.Passing.{run_is, run_none}
 use Rattle.sip_heavy.specs.declared.form.LeafForm.{LeafForm}
 use Rattle.sip_heavy.specs.declared.form.LeafForm.TheVariants as forms
 use Rattle.sip_heavy.specs.AcceptsHeavy.{HeavyQuestion, merged, with_nodes, end_test}
-use Rattle.sip_heavy.specs.Honest.{Proving, learnt, is_first, lowest_frames, proving, proving_over, shown_from, frames_of}
+use Rattle.sip_heavy.specs.Honest.{Proving, learnt, is_first, lowest_frames, proving, proving_over, shown_from, opening_frames}
 use Rattle.sip_heavy.specs.Protocol.{HeavyState, ended, heavy_rules}
 use Rattle.sip_heavy.proofs.HeavyPairs.{counts, AreCounts, numbered, children, is_heavy, heavy_is, above_is, above_counts, above_are}
 use Rattle.sip_heavy.proofs.HonestFrames.{AreHashed, AreShown, IsNodeRow, room_below, shown_rows, above_hashed, leaves_back, marks_shown}
@@ -90,7 +90,7 @@ arrives p t j leaves is_leaf level (r ∷ challenges) = arrives p t (j + 1) (if 
 -- ---- one reply
 
 abbrev pub reply_of : Version → ℕ → Proving → List ℕ
-reply_of version p s = flat_map (spelling version) (frames_of p s ++ messages.LevelEnd ∷ [])
+reply_of version p s = flat_map (spelling version) (opening_frames p s ++ messages.LevelEnd ∷ [])
 
 -- the replies from a level on
 abbrev pub replies_of : Version → ℕ → LeafForm → ℕ → Bool → List Counted → List ℕ → List (List ℕ)

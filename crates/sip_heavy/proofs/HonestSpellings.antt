@@ -17,7 +17,7 @@ use Rattle.sip_wire.specs.Spelling.{fits}
 use Rattle.sip_wire.specs.Versions.{index_width}
 use Rattle.sip_heavy.specs.declared.form.LeafForm.{LeafForm}
 use Rattle.sip_heavy.specs.declared.form.LeafForm.TheVariants as forms
-use Rattle.sip_heavy.specs.Honest.{its_nodes, leaf_of, leaf_frames, lowest_frames, mark_frames, mark_of, messages_over, node_frames, frames_of, proving_over, shown_from, honest_messages, CanBeSent}
+use Rattle.sip_heavy.specs.Honest.{its_nodes, leaf_of, leaf_frames, lowest_frames, mark_frames, mark_of, messages_over, node_frames, opening_frames, proving_over, shown_from, honest_messages, CanBeSent}
 use Rattle.sip_heavy.specs.HonestMarks.{above_messages, mark_leaves, CanBeMarked}
 use Rattle.sip_heavy.proofs.HeavyPairs.{counts, AreCounts, above_are, abs_sum}
 use Rattle.sip_heavy.proofs.HonestFrames.{AreHashed, AreMarkNodes, AreShown, IsLeafRow, IsMarkRow, IsNodeRow, leaves_fit, marks_fit, marks_shown, mark_rows, nodes_fit, end_fits, leaf_rows, room_below, shown_rows, above_hashed}
@@ -60,7 +60,7 @@ module _ (version : Version) where
 
   -- at the leaves, and above them
   opening_fit : (p : ℕ) (form : LeafForm) (leaves : List Counted) (t : ℕ) (prefix : List ℕ) → p ≤ m61_modulus → AreShown version p form leaves
-      → All (IsNodeRow version) (its_nodes (proving_over p form leaves t prefix)) → All HasSpelling (frames_of p (proving_over p form leaves t prefix))
+      → All (IsNodeRow version) (its_nodes (proving_over p form leaves t prefix)) → All HasSpelling (opening_frames p (proving_over p form leaves t prefix))
   opening_fit p form leaves t [] elements are rows = lowest_fit p form t leaves elements are rows
   opening_fit p form leaves t (r ∷ prefix) elements are rows = node_frames_fit (its_nodes (proving_over p form leaves t (r ∷ prefix))) rows
 
@@ -108,7 +108,7 @@ module _ (version : Version) (p : ℕ) (form : LeafForm) (depth n : ℕ) (leaves
       let s = proving_over p form leaves t revealed in
       let room = room_above p n (256 ^ index_width version) can.counted.modulus leaves revealed leaves_room in
       let rows = shown_rows version t s.is_leaf p n can.elements (omega (arith, can.counted.light, can.elements)) 0 s.level (omega (arith, room.size)) room.hashed room.sum in
-      All-append (HasSpelling version) (frames_of p s) (messages.LevelEnd ∷ []) (opening_fit version p form leaves t revealed can.elements can.shown rows)
+      All-append (HasSpelling version) (opening_frames p s) (messages.LevelEnd ∷ []) (opening_fit version p form leaves t revealed can.elements can.shown rows)
       (All-cons (HasSpelling version) messages.LevelEnd [] (end_fits version) (All-nil (HasSpelling version)))
 
 pub messages_fit : (version : Version) (p depth n : ℕ) (numbers : List ℤ) → CanBeSent version p depth n numbers → (t : ℕ) (revealed : List ℕ) → All (λ m. IsTrue (fits version m)) (honest_messages p numbers t revealed)

@@ -54,26 +54,9 @@ weighs side i (u ∷ s) =
           ]
       | inr t ↦
           let all : weight (u ∷ s) side ≡ weight s side = rw t refl in
-          elim (cases_Bool (u.item == i)) [
-            | inl e ↦
-                let value : frequency (u ∷ s) side i ≡ frequency s side i = rw (e, t) refl in
-                let count : frequency (map absolute (u ∷ s)) side i ≡ frequency (map absolute s) side i = rw (e, t) refl in
-                record {
-                  n = ih.n;
-                  counts = count ∙ ih.counts;
-                  within = omega (arith, ap nat_abs value, ih.within);
-                  most = omega (arith, all, ih.most);
-                }
-            | inr e ↦
-                let value : frequency (u ∷ s) side i ≡ frequency s side i = rw e refl in
-                let count : frequency (map absolute (u ∷ s)) side i ≡ frequency (map absolute s) side i = rw e refl in
-                record {
-                  n = ih.n;
-                  counts = count ∙ ih.counts;
-                  within = omega (arith, ap nat_abs value, ih.within);
-                  most = omega (arith, all, ih.most);
-                }
-          ]
+          let value : frequency (u ∷ s) side i ≡ frequency s side i = elim (cases_Bool (u.item == i)) [ inl e ↦ rw (e, t) refl | inr e ↦ rw e refl ] in
+          let count : frequency (map absolute (u ∷ s)) side i ≡ frequency (map absolute s) side i = elim (cases_Bool (u.item == i)) [ inl e ↦ rw (e, t) refl | inr e ↦ rw e refl ] in
+          record { n = ih.n; counts = count ∙ ih.counts; within = omega (arith, ap nat_abs value, ih.within); most = omega (arith, all, ih.most) }
     ]
 
 weighed_at : (s : List Update) (side : Side) (i : ℕ) → weight s side ≤ most_weight → IsWeighed m61_modulus (frequency s side i) (frequency (map absolute s) side i)

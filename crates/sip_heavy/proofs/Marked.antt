@@ -1,10 +1,13 @@
 -- The marks that a prover begins with stand for the lowest level.
 use Rattle.std.proofs.Common.{◌≡◌, ℕ, suc, ◌+◌, ◌<◌, ◌≤◌, true, false, ◌==◌, List, [], ◌∷◌, length, map, All, ℤ, pos, negsuc, nat_abs, sum_by, refl, sym, ap, subst, ◌∙◌, inl, inr, arith}
-use Rattle.std.specs.Prelude.{◌≤ℤ◌}
+use Rattle.std.specs.Bool.{Decides}
+use Rattle.std.specs.Prelude.{◌≤ℤ◌, int_le}
 use Rattle.std.specs.List.{AllByRecursion, zip}
+use Rattle.std.proofs.Math.Bool.{and-false}
 use Rattle.std.proofs.lemmas.Bool.{eq-eqb, ne_eqb}
+use Rattle.std.proofs.lemmas.Bool.Decides.{nat_tests, Decides-and}
 use Rattle.std.proofs.lemmas.Int.{ints}
-use Rattle.std.proofs.lemmas.List.Elements.{All-nil, All-cons, recursion_from_All}
+use Rattle.std.proofs.lemmas.List.Elements.{All-nil, All-cons, All-from_recursion, recursion_from_All}
 use Rattle.std.proofs.lemmas.List.Sums.{sum_by-cons}
 use Rattle.sip_field.specs.Residue.{residue}
 use Rattle.sip_vector.specs.declared.update.Entry.{Entry}
@@ -16,7 +19,7 @@ use Rattle.sip_wire.specs.declared.message.Node.{Node}
 use Rattle.sip_heavy.specs.AcceptsHeavy.{counted}
 use Rattle.sip_heavy.specs.HonestMarks.{mark_leaves}
 use Rattle.sip_heavy.specs.Rising.{Rises}
-use Rattle.sip_heavy.specs.Spots.{behind_value, leaf_of_entry, mark_of_entry, marked_entries, value_at, whole_level}
+use Rattle.sip_heavy.specs.Spots.{are_covered, behind_value, leaf_of_entry, mark_of_entry, marked_entries, value_at, whole_level}
 use Rattle.sip_heavy.proofs.Leaves.{kept_from, leaf_zero, leaves_light, leaves_rise, place_before, behind_before}
 
 -- ---- as the leaves of the weights, but for the hashes
@@ -106,3 +109,47 @@ module _ (p : ℕ) (some : 0 < p) where
   pub marks_stand_for : (values weights : List ℤ) → length values ≡ length weights → All (λ x. pos (nat_abs x.0) ≤ℤ x.1) (zip values weights)
       → whole_level (length weights) 0 (marked_entries p (kept_from 0 values) (kept_from 0 weights)) ≡ mark_leaves p values weights
   marks_stand_for values weights long all = stand_from 0 values weights long (recursion_from_All (λ x. pos (nat_abs x.0) ≤ℤ x.1) (zip values weights) all)
+
+-- ---- weights cover their values
+
+reaches : (n : ℕ) (w : ℤ) → Decides (int_le (pos n) w) (pos n ≤ℤ w)
+reaches n (pos m) = (λ e. grind (arith, ints), λ h. grind (arith, ints))
+reaches n (negsuc m) = (λ e. grind (arith, ints), λ h. grind (arith, ints))
+
+-- a value that no weight stands at is left
+passed_by : (e : Entry) (more : List Entry) (j : ℕ) (weights : List ℤ) → e.index < j → are_covered (e ∷ more) (kept_from j weights) ≡ false
+passed_by e more j [] less = grind (arith, nat_tests)
+passed_by e more j (w ∷ weights) less =
+    let later = passed_by e more (j + 1) weights (omega (arith, less)) in
+    let off : (e.index == j) ≡ false = ne_eqb e.index j (λ q. absurd (omega (arith, q, less))) in
+    elim (is_zero_tells w) [
+      | inl t ↦ rw t.0 later
+      | inr t ↦ rw (t.0, off, later) (and-false (int_le (pos 0) w))
+    ]
+
+covered_from : (i : ℕ) (values weights : List ℤ) → length values ≡ length weights
+    → Decides (are_covered (kept_from i values) (kept_from i weights)) (AllByRecursion (λ x. pos (nat_abs x.0) ≤ℤ x.1) (zip values weights))
+covered_from i [] [] long = (λ _. tt, λ _. refl)
+covered_from i [] (w ∷ weights) long = absurd (omega (arith, long))
+covered_from i (a ∷ values) [] long = absurd (omega (arith, long))
+covered_from i (a ∷ values) (w ∷ weights) long =
+    let later = covered_from (i + 1) values weights (omega (arith, long)) in
+    let more : List Entry = kept_from (i + 1) values in
+    let here : (i == i) ≡ true = eq-eqb i i refl in
+    let head = first i a values in
+    elim (is_zero_tells w) [
+      | inl t ↦ elim (is_zero_tells a) [
+        | inl z ↦ rw (t.0, z.0) (λ e. (let both : pos (nat_abs a) ≤ℤ w = rw (z.1, t.1) (omega (arith, ints)) in both, later.0 e), λ all. later.1 all.1)
+        | inr z ↦
+            let left = passed_by (as_entry (i, a)) more (i + 1) weights (omega arith) in
+            rw (t.0, z.0) (λ e. absurd (let no : false ≡ true = sym left ∙ e in cc), λ all. absurd (z.1 (no_value a w all.0 t.1)))
+      ]
+      | inr t ↦ rw (t.0, head.value, head.behind) (Decides-and (int_le (pos (nat_abs a)) w) (are_covered more (kept_from (i + 1) weights)) (reaches (nat_abs a) w) later)
+    ]
+
+pub covered : (values weights : List ℤ) → length values ≡ length weights
+    → Decides (are_covered (kept_from 0 values) (kept_from 0 weights)) (All (λ x. pos (nat_abs x.0) ≤ℤ x.1) (zip values weights))
+covered values weights long =
+    let P : ℤ × ℤ → Type 0 = λ x. pos (nat_abs x.0) ≤ℤ x.1 in
+    let test = covered_from 0 values weights long in
+    (λ e. All-from_recursion P (zip values weights) (test.0 e), λ all. test.1 (recursion_from_All P (zip values weights) all))

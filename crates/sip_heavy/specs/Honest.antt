@@ -130,18 +130,14 @@ abbrev pub node_frames : List Node → List Message
 node_frames nodes = map (λ piece. messages.Nodes (record { items = piece })) (cut most_nodes nodes)
 
 -- the frames before the end of the level
-abbrev pub frames_of : ℕ → Proving → List Message
-frames_of p s =
+abbrev pub opening_frames : ℕ → Proving → List Message
+opening_frames p s =
     if s.is_leaf then lowest_frames p s.form (its_nodes s) else node_frames (its_nodes s)
-
--- where leaves are counts
-abbrev pub opening_frames : Proving → List Message
-opening_frames s = if s.is_leaf then leaf_frames (its_nodes s) else node_frames (its_nodes s)
 
 -- the messages that are due of leaves once these challenges are revealed
 abbrev pub messages_over : ℕ → LeafForm → List Counted → ℕ → List ℕ → List Message
 messages_over p form leaves t prefix =
-    frames_of p (proving_over p form leaves t prefix) ++ messages.LevelEnd ∷ []
+    opening_frames p (proving_over p form leaves t prefix) ++ messages.LevelEnd ∷ []
 
 -- of a vector's numbers
 unfoldable pub honest_messages : ℕ → List ℤ → ℕ → List ℕ → List Message

@@ -1,7 +1,8 @@
 -- A level kept by its nodes that are not zero. Only the contracts of private functions cite these
 -- definitions.
 use Rattle.std.specs.Prelude.{ℕ, zero, suc, ◌+◌, ◌-◌, ◌/◌, ◌%◌, ◌^◌, ◌<◌, ◌≤◌, ◌==◌, Bool, nat_le}
-use Rattle.std.specs.Prelude.{ℤ, pos, nat_abs, List, [], ◌∷◌, ◌++◌, All, filter, sum_by}
+use Rattle.std.specs.Prelude.{◌&&◌, ℤ, pos, nat_abs, int_le, List, [], ◌∷◌, ◌++◌, All, filter}
+use Rattle.std.specs.Prelude.{length, sum_by}
 use Rattle.std.specs.Prelude.{if◌then◌else◌}
 use Rattle.sip_field.specs.Residue.{residue}
 use Rattle.sip_vector.specs.Limits.{most_depth}
@@ -101,6 +102,13 @@ marked_entries p values [] = []
 marked_entries p values (e ∷ es) =
     mark_of_entry p (value_at e.index values) e
     ∷ marked_entries p (behind_value e.index values) es
+
+-- each entry of weights is at least the size of the value at its index, and no value is left
+abbrev pub are_covered : List Entry → List Entry → Bool
+are_covered values [] = length values == 0
+are_covered values (e ∷ es) =
+    int_le (pos (nat_abs (value_at e.index values))) e.value
+    && are_covered (behind_value e.index values) es
 
 -- the nodes stand in a level of 2 ^ left places, and neither their counts nor their sum overflows
 pub record IsKept (p t left : ℕ) (spots : List Node) : Type 0 where

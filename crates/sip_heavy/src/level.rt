@@ -144,7 +144,7 @@ pub(crate) fn put_heavy<F: Field>(
 }
 
 // Whether an entry is at least this.
-fn is_at_least(value: i64, at_least: u64) -> bool
+pub(crate) fn is_at_least(value: i64, at_least: u64) -> bool
     ensures { result ≡ int_le (pos at_least) value }
 {
     value >= 0 && value as u64 >= at_least
@@ -162,7 +162,7 @@ fn value_of<F: Field>(form: LeafForm, leaf: &Node) -> i64
 }
 
 // The number of least size that has this residue.
-fn signed_of<F: Field>(residue: F) -> i64
+pub(crate) fn signed_of<F: Field>(residue: F) -> i64
     ensures { (h : ℕ) → F.number residue ≡ h % F.MODULUS → result ≡ heavy.signed F.MODULUS h }
 {
     let number = residue.number();

@@ -2,18 +2,21 @@
 
 ghost use Rattle.std.specs.Prelude.{◌≡◌, ◌*◌, ◌^◌, ◌<◌, ◌≤◌, ◌↔◌, pos, ◌≤ℤ◌, nat_abs, nat_le};
 ghost use Rattle.std.specs.Prelude.{All, filter};
-ghost use Rattle.std.specs.Prelude.{length, slice_get, IfOk, IfSome};
+ghost use Rattle.std.specs.Prelude.{length, slice_get, IfOk, IfSome, IsSome};
 ghost use Rattle.std.specs.List.{zip};
 ghost use Rattle.std.specs.Option.{option_map};
+ghost use Rattle.sip_field.specs.Elements.{m61_number};
+ghost use Rattle.sip_field.specs.Moduli.{m61_modulus};
 ghost use Rattle.sip_vector.specs.Limits.{most_depth};
-ghost use Rattle.sip_heavy.specs.Honest.{begun, learnt, its_nodes, node_of};
+ghost use Rattle.sip_heavy.specs.Honest.{begun, learnt, its_nodes, mark_of, node_of};
 ghost use Rattle.sip_heavy.specs.HonestMarks.{begun_above};
 
 use crate::form::LeafForm;
+use crate::level::signed_of;
 use crate::spots::{first_shown, fold_spots, leaves_of, marks_of, place_of};
-use sip_field::{Field, OutOfMemory};
+use sip_field::{Field, M61, OutOfMemory};
 use sip_vector::Vector;
-use sip_wire::Node;
+use sip_wire::{Mark, Node};
 use std::alloc::Global;
 use std::marker::{Model, PhantomData};
 
@@ -26,6 +29,19 @@ pub struct HeavyNode<F> {
     pub hash: F,
     /// The sum of the entries below it.
     pub count: u64,
+}
+
+impl HeavyNode<M61> {
+    /// A leaf as the mark that it is.
+    pub fn mark(&self) -> Mark
+        ensures { result ≡ mark_of m61_modulus (node_of m61_number self.now) }
+    {
+        Mark {
+            item: self.index,
+            value: signed_of(self.hash),
+            weight: self.count,
+        }
+    }
 }
 
 /// What an honest helper keeps to show the entries of a vector that are at least a threshold.
@@ -90,35 +106,39 @@ impl<F: Field> HeavyProver<F> {
         })
     }
 
-    /// Begins at the marks over a vector of values and one of their weights, none of which is below
-    /// the size of its value. It takes memory for the weights that are not 0; no later call takes
-    /// any. O(m), and slower where additions are pending in a vector.
+    /// Begins at the marks over a vector of values and one of their weights; `None` exactly where a
+    /// weight is below the size of its value. It takes memory for the weights that are not 0; no
+    /// later call takes any. O(m), and slower where additions are pending in a vector.
     pub fn start_above(
         alloc: Global,
         values: &Vector,
         weights: &Vector,
         at_least: u64,
-    ) -> Result<HeavyProver<F>, OutOfMemory>
+    ) -> Result<Option<HeavyProver<F>>, OutOfMemory>
         requires depth { values.now.depth ≡ weights.now.depth }
-        requires weighed { All (λ x. pos (nat_abs x.0) ≤ℤ x.1)
-            (zip values.now.numbers weights.now.numbers) }
         requires some { 1 ≤ at_least }
-        ensures begun { IfOk result (λ prover. prover
-            ≡ begun_above F.MODULUS values.now.numbers weights.now.numbers at_least) }
-        ensures length { IfOk result (λ prover. length prover.level ≡ 2 ^ values.now.depth) }
+        ensures weighed { IfOk result (λ made. IsSome made ↔ All (λ x. pos (nat_abs x.0) ≤ℤ x.1)
+            (zip values.now.numbers weights.now.numbers)) }
+        ensures begun { IfOk result (λ made. IfSome made (λ prover. prover
+            ≡ begun_above F.MODULUS values.now.numbers weights.now.numbers at_least)) }
+        ensures length { IfOk result (λ made. IfSome made (λ prover. length prover.level
+            ≡ 2 ^ values.now.depth)) }
     {
-        let spots = marks_of::<F>(alloc, values, weights)?;
-        // The proof wants the bound of the weights, and how many values there are.
-        let _ = weights.weight();
+        // The proof wants how many values there are, and the bound of the weights.
         let _ = values.depth();
-        Ok(HeavyProver {
+        let levels_left = weights.depth().get();
+        let Some(spots) = marks_of::<F>(alloc, values, weights)? else {
+            return Ok(None);
+        };
+        let _ = weights.weight();
+        Ok(Some(HeavyProver {
             form: LeafForm::Mark,
             at_least,
             is_leaf: true,
-            levels_left: weights.depth().get(),
+            levels_left,
             spots,
             field: PhantomData,
-        })
+        }))
     }
 
     /// What leaves have: they are counts, or marks.

@@ -1,7 +1,8 @@
 //! A level kept by its nodes that are not zero.
 
-ghost use Rattle.std.specs.Prelude.{◌≡◌, ℕ, ◌/◌, ◌^◌, ◌<◌, ◌≤◌, pos, ◌≤ℤ◌, All, length, map, drop};
-ghost use Rattle.std.specs.Prelude.{◌∷◌, ◌++◌, slice_get, nat_lt, true, false, IfOk, IsTrue};
+ghost use Rattle.std.specs.Prelude.{◌≡◌, ℕ, ◌/◌, ◌^◌, ◌<◌, ◌≤◌, ◌↔◌, pos, ◌≤ℤ◌, All, length, map, drop};
+ghost use Rattle.std.specs.Prelude.{◌∷◌, ◌++◌, slice_get, nat_lt, true, false, IfOk, IfSome, IsSome};
+ghost use Rattle.std.specs.Prelude.{IsTrue};
 ghost use Rattle.std.specs.Prelude.{Bool as AnyBool};
 ghost use Rattle.std.specs.List.Sorted.{IsPartitionPoint};
 ghost use Rattle.sip_field.specs.Residue.{product_mod};
@@ -11,7 +12,7 @@ ghost use Rattle.sip_heavy.specs.Honest as honest;
 ghost use Rattle.sip_heavy.specs.Rising.{Rises};
 ghost use Rattle.sip_heavy.specs.Spots as spots_of;
 
-use crate::level::{half, joined};
+use crate::level::{half, is_at_least, joined};
 use sip_field::{Field, OutOfMemory};
 use sip_vector::{Entry, Vector};
 use sip_wire::Node;
@@ -48,15 +49,18 @@ fn listed<F: Field>(alloc: Global, entries: &[Entry]) -> Result<Vec<Node>, OutOf
     Ok(spots)
 }
 
-// The marks over the weights that are not 0, each with its value. O(m), and slower where additions
-// are pending in a vector.
+// The marks over the weights that are not 0, each with its value; `None` where a weight is below the
+// size of its value. O(m), and slower where additions are pending in a vector.
 pub(crate) fn marks_of<F: Field>(
     alloc: Global,
     values: &Vector,
     weights: &Vector,
-) -> Result<Vec<Node>, OutOfMemory>
-    ensures { IfOk result (λ spots. spots.items ≡ spots_of.marked_entries F.MODULUS
-        (nonzero values.now.numbers) (nonzero weights.now.numbers)) }
+) -> Result<Option<Vec<Node>>, OutOfMemory>
+    ensures covered { IfOk result (λ made. IsSome made ↔ IsTrue (spots_of.are_covered
+        (nonzero values.now.numbers) (nonzero weights.now.numbers))) }
+    ensures marks { IfOk result (λ made. IfSome made (λ spots. spots.items
+        ≡ spots_of.marked_entries F.MODULUS (nonzero values.now.numbers)
+        (nonzero weights.now.numbers))) }
 {
     if let Some(entries) = values.entries() {
         return marks_with::<F>(alloc, entries, weights);
@@ -70,9 +74,11 @@ fn marks_with<F: Field>(
     alloc: Global,
     values: &[Entry],
     weights: &Vector,
-) -> Result<Vec<Node>, OutOfMemory>
-    ensures { IfOk result (λ spots. spots.items ≡ spots_of.marked_entries F.MODULUS
-        values.now (nonzero weights.now.numbers)) }
+) -> Result<Option<Vec<Node>>, OutOfMemory>
+    ensures covered { IfOk result (λ made. IsSome made ↔ IsTrue (spots_of.are_covered values.now
+        (nonzero weights.now.numbers))) }
+    ensures marks { IfOk result (λ made. IfSome made (λ spots. spots.items
+        ≡ spots_of.marked_entries F.MODULUS values.now (nonzero weights.now.numbers))) }
 {
     if let Some(entries) = weights.entries() {
         return marked::<F>(alloc, values, entries);
@@ -86,14 +92,19 @@ fn marked<F: Field>(
     alloc: Global,
     values: &[Entry],
     weights: &[Entry],
-) -> Result<Vec<Node>, OutOfMemory>
-    ensures { IfOk result (λ spots. spots.items
-        ≡ spots_of.marked_entries F.MODULUS values.now weights.now) }
+) -> Result<Option<Vec<Node>>, OutOfMemory>
+    ensures covered { IfOk result (λ made. IsSome made
+        ↔ IsTrue (spots_of.are_covered values.now weights.now)) }
+    ensures marks { IfOk result (λ made. IfSome made (λ spots. spots.items
+        ≡ spots_of.marked_entries F.MODULUS values.now weights.now)) }
 {
     let mut spots = Vec::with_capacity(alloc, weights.len())?;
     let mut rest = values;
     for weight in weights {
         let found = value_at(rest, weight.index);
+        if !is_at_least(weight.value, found.value.unsigned_abs()) {
+            return Ok(None);
+        }
         rest = found.behind;
         spots.push(Node {
             index: weight.index,
@@ -101,7 +112,10 @@ fn marked<F: Field>(
             count: weight.value.unsigned_abs(),
         })?;
     }
-    Ok(spots)
+    if !rest.is_empty() {
+        return Ok(None);
+    }
+    Ok(Some(spots))
 }
 
 // The value at an index, and the entries behind it.

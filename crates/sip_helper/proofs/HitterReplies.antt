@@ -131,23 +131,23 @@ tall depth v revealed s h less = omega (arith, folds_left-two (depth - length re
 
 -- the messages of an honest reply are what is shown of the prover's level, and its end
 messages_are : (depth : ℕ) (v : Vectors) (revealed : List ℕ) (s : HittersProver) → HasNodes depth v revealed s
-    → (help_row (hitters_query s)).honest v revealed ≡ opening_frames s.prover ++ messages.LevelEnd ∷ []
+    → (help_row (hitters_query s)).honest v revealed ≡ opening_frames m61_modulus s.prover ++ messages.LevelEnd ∷ []
 unfolding honest_messages
 messages_are depth v revealed s h =
     ap (λ (row : HelpRow). row.honest v revealed) (row_is s.side s.least)
-    ∙ ap (λ (x : Proving). opening_frames x ++ messages.LevelEnd ∷ []) (sym h.level)
+    ∙ ap (λ (x : Proving). opening_frames m61_modulus x ++ messages.LevelEnd ∷ []) (sym h.level)
 
 -- their bytes
 pub reply_is : (version : Version) (depth : ℕ) (v : Vectors) (revealed : List ℕ) (s : HittersProver) → HasNodes depth v revealed s
-    → flat_map (spelling version) ((help_row (hitters_query s)).honest v revealed) ≡ flat_map (spelling version) (opening_frames s.prover) ++ spelling version messages.LevelEnd
+    → flat_map (spelling version) ((help_row (hitters_query s)).honest v revealed) ≡ flat_map (spelling version) (opening_frames m61_modulus s.prover) ++ spelling version messages.LevelEnd
 reply_is version depth v revealed s h =
     ap (flat_map (spelling version)) (messages_are depth v revealed s h)
-    ∙ flat_map-append (spelling version) (opening_frames s.prover) (messages.LevelEnd ∷ [])
-    ∙ ap (λ (l : List ℕ). flat_map (spelling version) (opening_frames s.prover) ++ l) (append-nil (spelling version messages.LevelEnd))
+    ∙ flat_map-append (spelling version) (opening_frames m61_modulus s.prover) (messages.LevelEnd ∷ [])
+    ∙ ap (λ (l : List ℕ). flat_map (spelling version) (opening_frames m61_modulus s.prover) ++ l) (append-nil (spelling version messages.LevelEnd))
 
 -- each message of an honest reply has a spelling
 replies_fit : (version : Version) (depth : ℕ) (v : Vectors) (revealed : List ℕ) (s : HittersProver) → HasNodes depth v revealed s → depth ≤ deepest version → length revealed < depth
-    → All (λ m. IsTrue (fits version m)) (opening_frames s.prover ++ messages.LevelEnd ∷ [])
+    → All (λ m. IsTrue (fits version m)) (opening_frames m61_modulus s.prover ++ messages.LevelEnd ∷ [])
 unfolding honest_messages
 replies_fit version depth v revealed s h shallow less =
     let numbers = (vector_of v s.side).numbers in
@@ -165,13 +165,13 @@ replies_fit version depth v revealed s h shallow less =
       elements = omega arith;
       shallow = shallow;
     } in
-    subst (λ (x : Proving). All (λ m. IsTrue (fits version m)) (opening_frames x ++ messages.LevelEnd ∷ [])) (sym h.level) (messages_fit version m61_modulus depth sum.0 numbers can t revealed)
+    subst (λ (x : Proving). All (λ m. IsTrue (fits version m)) (opening_frames m61_modulus x ++ messages.LevelEnd ∷ [])) (sym h.level) (messages_fit version m61_modulus depth sum.0 numbers can t revealed)
 
 -- so has each frame of its level
 pub level_fits : (version : Version) (depth : ℕ) (v : Vectors) (revealed : List ℕ) (s : HittersProver) → HasNodes depth v revealed s → depth ≤ deepest version → length revealed < depth
-    → All (λ m. IsTrue (fits version m)) (opening_frames s.prover)
+    → All (λ m. IsTrue (fits version m)) (opening_frames m61_modulus s.prover)
 level_fits version depth v revealed s h shallow less =
     let HasSpelling : Message → Type 0 = λ m. IsTrue (fits version m) in
-    let shown = opening_frames s.prover in
+    let shown = opening_frames m61_modulus s.prover in
     subst (All HasSpelling) (take_at shown (messages.LevelEnd ∷ []) (length shown) refl)
     (All-take HasSpelling (length shown) (shown ++ messages.LevelEnd ∷ []) (replies_fit version depth v revealed s h shallow less))

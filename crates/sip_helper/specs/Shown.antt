@@ -1,5 +1,5 @@
 -- What a helper shows of the stream that it heard.
-use Rattle.std.specs.Prelude.{ℕ, Option, Some, None}
+use Rattle.std.specs.Prelude.{ℕ, ◌+◌, Option, Some, None}
 use Rattle.std.specs.Option.{option_map}
 use Rattle.sip_vector.specs.declared.update.Side.{Side}
 use Rattle.sip_vector.specs.declared.update.Side.TheVariants as sides
@@ -30,3 +30,7 @@ weight_of w sides.Second = w.second
 abbrev pub shown_vector : HelperState → Side → Option SideVector
 shown_vector s side =
     elim s.heard [ Whole depth ↦ option_map (λ v. vector_of v side) s.vectors | _ ↦ None ]
+
+-- one query more was asked
+abbrev pub counted : HelperState → HelperState
+counted s = record s { queries = s.queries + 1 }

@@ -10,7 +10,8 @@ ghost use Rattle.sip_vector.specs.Vectors.{contents};
 ghost use Rattle.sip_wire.specs.Spelling.{fits};
 ghost use Rattle.sip_wire.specs.declared.version.Version.TheVariants.{Two};
 ghost use Rattle.sip_wire.specs.declared.message.Message.TheVariants as messages;
-ghost use Rattle.sip_helper.specs.Shown.{opened, opened_version, shown_vector, weight_of};
+ghost use Rattle.sip_helper.specs.Shown.{counted, opened, opened_version, shown_vector, weight_of};
+ghost use Rattle.sip_wire.specs.Table.{most_queries};
 ghost use Rattle.sip_helper.specs.inside.Measures.{turns_left};
 ghost use Rattle.sip_helper.specs.Turns.{after_answer, depth_of, fresh, is_allowed, may_hear, owed};
 ghost use Rattle.sip_helper.specs.Turns.{owes, step, whole_of};
@@ -297,6 +298,23 @@ impl HelperCore {
             Some(vectors) => Some(vectors.of_side(side)),
             None => None,
         }
+    }
+
+    /// Counts a query that is answered elsewhere.
+    ///
+    /// # Errors
+    ///
+    /// `OutOfTurn` exactly where 16 were asked: nothing is changed.
+    pub fn count_query(&mut self) -> Result<(), OutOfTurn>
+        ensures turn { IsOk result ↔ self.old.queries < most_queries }
+        ensures counted { OnOk result (self.new ≡ counted self.old) }
+        ensures same { OnErr result (self.new ≡ self.old) }
+    {
+        if self.queries >= MOST_QUERIES {
+            return Err(OutOfTurn);
+        }
+        self.queries += 1;
+        Ok(())
     }
 
     /// Whether a query is open: it was asked, and neither its last reply nor a refusal was given.

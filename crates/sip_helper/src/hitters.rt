@@ -89,7 +89,7 @@ impl HittersProver {
 /// Sends the end of a level. Its message is made in a call of its own, so that the stack does not
 /// have it while nodes are sent.
 #[inline(never)]
-fn put_level_end<K: Sink>(version: Version, out: &mut K) -> Result<(), PortStop>
+pub fn put_level_end<K: Sink>(version: Version, out: &mut K) -> Result<(), PortStop>
     ensures talk { SendsWhole (K.talk out.old) (K.talk out.new) result
         (spelling version messages.LevelEnd) }
     ensures cause { HasCause K.faults K.wants K.is_sure out.old out.new result }

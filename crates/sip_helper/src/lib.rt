@@ -62,6 +62,7 @@ mod nodes;
 mod prover;
 mod refusal;
 mod serving;
+mod shown_row;
 mod status;
 mod sub_vector;
 mod sums;
@@ -71,7 +72,9 @@ pub mod turn_laws;
 mod vectors;
 
 pub use helper::HelperCore;
-pub use refusal::{WANT_OF_MEMORY, put_refusal};
+pub use hitters::put_level_end;
+pub use nodes::put_level;
+pub use refusal::{TOO_MANY, WANT_OF_MEMORY, put_refusal};
 pub use serving::serve;
 pub use status::HelpStatus;
 pub use talking::{Helps, answer_turn, take_turn, talk, talk_on};

@@ -13,7 +13,7 @@ use sip_wire::{Message, Version, encode};
 pub const WANT_OF_MEMORY: u8 = 1;
 
 /// The code of a refusal where the answer has more entries than one may have.
-pub(crate) const TOO_MANY: u8 = 2;
+pub const TOO_MANY: u8 = 2;
 
 /// The code of a refusal where an entry of the query's side is negative.
 pub(crate) const NOT_STRICT: u8 = 3;

@@ -35,7 +35,7 @@ impl From<PortStop> for HelpStatus {
 
 impl HelpStatus {
     /// The status where no message was received, by the offset of the frame.
-    pub(crate) fn of_fault(fault: WireFault, offset: u64) -> HelpStatus
+    pub fn of_fault(fault: WireFault, offset: u64) -> HelpStatus
         ensures { result ≡ status_of_fault fault offset }
     {
         match fault {

@@ -5,18 +5,19 @@ use Rattle.std.proofs.lemmas.Fmt.{decimal_injective}
 use Rattle.std.proofs.lemmas.List.{append_assoc, append-nil, append_cancel_left, length-append, length-replicate}
 use Rattle.sip_vector.specs.declared.update.Side.TheVariants.{First, Second}
 use Rattle.sip_sketch.specs.declared.kind.SeatKind.{SeatKind}
-use Rattle.sip_sketch.specs.declared.kind.SeatKind.TheVariants.{Entries, Sums, Products, Heavy}
+use Rattle.sip_sketch.specs.declared.kind.SeatKind.TheVariants.{Above, Entries, Heavy, Products, Sums}
 use Rattle.sip_sketch.specs.SeatLines.{kind_word}
 use Rattle.sip_sketch.specs.Sketches.{most_seats}
 use Rattle.sip_keeping.specs.Words.{AreSeats, seats_word}
 
--- the kind whose word begins with this letter, with this one at number 5
+-- the kind whose word begins with this letter, with this one at number 5 or 6
 abbrev lettered : List ℕ → SeatKind
 lettered w =
     if get_or w 0 0 == 101 then Entries else (
     if get_or w 0 0 == 112 then Products else (
     if get_or w 0 0 == 115 then (if get_or w 5 0 == 48 then Sums First else Sums Second) else (
-    if get_or w 6 0 == 48 then Heavy First else Heavy Second)))
+    if get_or w 0 0 == 97 then (if get_or w 6 0 == 48 then Above First else Above Second) else (
+    if get_or w 6 0 == 48 then Heavy First else Heavy Second))))
 
 lettered_word : (kind : SeatKind) (count : ℕ) → lettered (seats_word kind count) ≡ kind
 lettered_word Entries count = refl
@@ -25,6 +26,8 @@ lettered_word (Sums Second) count = refl
 lettered_word Products count = refl
 lettered_word (Heavy First) count = refl
 lettered_word (Heavy Second) count = refl
+lettered_word (Above First) count = refl
+lettered_word (Above Second) count = refl
 
 -- one word asks for one kind and one number
 pub seats_once : (kind other : SeatKind) (n m : ℕ) → n < 2 ^ 64 → m < 2 ^ 64 → seats_word kind n ≡ seats_word other m → (kind ≡ other) × (n ≡ m)

@@ -6,7 +6,7 @@ use Rattle.sip_wire.specs.declared.message.Held.{Held}
 use Rattle.sip_sketch.specs.SeatLines.{kind_word}
 use Rattle.sip_sketch.specs.Sketches.{SeatValues, code_of}
 use Rattle.sip_sketch.specs.declared.kind.SeatKind.{SeatKind}
-use Rattle.sip_sketch.specs.declared.kind.SeatKind.TheVariants.{Entries, Sums, Products, Heavy}
+use Rattle.sip_sketch.specs.declared.kind.SeatKind.TheVariants.{Above, Entries, Heavy, Products, Sums}
 use Rattle.sip_ask.specs.declared.status.AskPort.TheVariants as ports
 use Rattle.sip_ask.specs.declared.status.AskStatus.{AskStatus}
 use Rattle.sip_ask.specs.declared.status.AskStatus.TheVariants as statuses
@@ -43,6 +43,8 @@ left_of seats = record {
   products = count_left Products seats;
   first_heavy = count_left (Heavy First) seats;
   second_heavy = count_left (Heavy Second) seats;
+  first_large = count_left (Above First) seats;
+  second_large = count_left (Above Second) seats;
 }
 
 -- the word that asks for as many, if there are some
@@ -54,12 +56,14 @@ abbrev pub left_line : SeatsLeft → List ℕ
 left_line left = codes "sip: hint: seats that are left:" ++ left_word Entries left.entries
     ++ left_word (Sums First) left.first_sums ++ left_word (Sums Second) left.second_sums
     ++ left_word Products left.products ++ left_word (Heavy First) left.first_heavy
-    ++ left_word (Heavy Second) left.second_heavy ++ 10 ∷ []
+    ++ left_word (Heavy Second) left.second_heavy ++ left_word (Above First) left.first_large
+    ++ left_word (Above Second) left.second_large ++ 10 ∷ []
 
 -- none is
 abbrev pub none_left : SeatsLeft → Bool
 none_left left = (left.entries == 0) && (left.first_sums == 0) && (left.second_sums == 0)
     && (left.products == 0) && (left.first_heavy == 0) && (left.second_heavy == 0)
+    && (left.first_large == 0) && (left.second_large == 0)
 
 -- what is said of them
 abbrev pub seats_hint : SeatsLeft → List ℕ

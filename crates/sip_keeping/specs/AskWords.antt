@@ -2,7 +2,7 @@
 use Rattle.std.specs.Prelude.{◌≡◌, ◌≢◌, ℕ, ◌≤◌, List, [], ◌∷◌, codes, length}
 use Rattle.sip_vector.specs.Limits.{most_depth}
 use Rattle.sip_wire.specs.Table.{most_queries}
-use Rattle.sip_words.specs.Shapes.{Asks, AsksLook, AsksMoment}
+use Rattle.sip_words.specs.Shapes.{Asks, AsksLarge, AsksLook, AsksMoment}
 use Rattle.sip_questions.specs.declared.question.Question.{Question}
 use Rattle.sip_questions.specs.declared.question.Question.TheVariants as questions
 use Rattle.sip_keeping.specs.Refusing.{AreRefusedAt}
@@ -11,12 +11,13 @@ use Rattle.sip_keeping.specs.Refusing.{AreRefusedAt}
 abbrev pub ask_word : List ℕ
 ask_word = codes "ask"
 
--- The word asks this question at some depth, and so at the greatest: it is a query's, a lookup's or
--- a moment's. Whether it fits the depth of the sketch is seen when that is loaded.
+-- The word asks this question at some depth, and so at the greatest: it is a query's, a lookup's, a
+-- moment's or one for large entries. Whether it fits the depth of the sketch is seen when that is loaded.
 abbrev pub IsQuestionWord : Question → List ℕ → Type 0
 IsQuestionWord (questions.Query query) word = Asks most_depth query word
 IsQuestionWord (questions.Lookup lookup) word = AsksLook most_depth lookup word
 IsQuestionWord (questions.Moment moment) word = AsksMoment most_depth moment word
+IsQuestionWord (questions.Large large) word = AsksLarge most_depth large word
 
 -- QUESTION..: each word asks one question
 abbrev pub AreQuestions : List (List ℕ) → List Question → Type 0

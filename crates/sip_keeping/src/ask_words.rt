@@ -15,7 +15,7 @@ use arrayvec::ArrayVec;
 use sip_questions::Question;
 use sip_vector::Depth;
 use sip_wire::MOST_QUERIES;
-use sip_words::{Usage, Words, read_lookup, read_moment, read_query};
+use sip_words::{Usage, Words, read_large, read_lookup, read_moment, read_query};
 
 /// What is asked of a sketch.
 pub type Questions = ArrayVec<Question, MOST_QUERIES>;
@@ -52,6 +52,9 @@ fn read_question(word: &str) -> Option<Question>
     }
     if let Some(lookup) = read_lookup(word, deepest) {
         return Some(Question::Lookup(lookup));
+    }
+    if let Some(large) = read_large(word) {
+        return Some(Question::Large(large));
     }
     Some(Question::Moment(read_moment(word)?))
 }

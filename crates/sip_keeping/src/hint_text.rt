@@ -20,8 +20,8 @@ sip: hint: PART/PARTS is 1/1, or the number of this collector and how many there
 
 /// Seats.
 pub(crate) const SEATS: &str = "\
-sip: hint: SEATS are entries:N, sums:SIDE:N, products:N or heavy:SIDE:N, with SIDE 0 or 1 and N \
-from 1, and 64 seats in all\n";
+sip: hint: SEATS are entries:N, sums:SIDE:N, products:N, heavy:SIDE:N or above:SIDE:N, with SIDE 0 \
+or 1 and N from 1, and 64 seats in all\n";
 
 /// A stream that a file holds.
 pub(crate) const STORED: &str = "\
@@ -53,8 +53,8 @@ sip: hint: TO is the file or FIFO that takes the bytes for the helper\n";
 /// A question.
 pub(crate) const QUESTION: &str = "\
 sip: hint: QUESTION is sub:LO:HI, range:SIDE:LO:HI, f2:SIDE, inner, heavy:SIDE:T, \
-share:SIDE:NUM:DEN, index:I, pred:I, succ:I or moment:SIDE:K, with K from 3 to 8, and there are 1 \
-to 16\n";
+share:SIDE:NUM:DEN, above:SIDE:T, index:I, pred:I, succ:I or moment:SIDE:K, with K from 3 to 8, \
+and there are 1 to 16\n";
 
 /// No word.
 pub(crate) const END: &str = "\
@@ -168,7 +168,7 @@ sip: hint: items are below 2^DEPTH of the sketch, which sip seats shows\n";
 /// Large entries of a side with negatives.
 pub(crate) const SIGNED: &str = "\
 sip: hint: a record of that side added a number below 0, and heavy and share are right only if no \
-entry is below 0: nothing was asked, and no seat is used\n";
+entry is below 0; above is right whatever was added; nothing was asked, and no seat is used\n";
 
 /// No seat at all.
 pub(crate) const NO_SEATS: &str = "\

@@ -45,8 +45,14 @@ fn spelled(word: &str) -> Option<(SeatKind, u64)>
     if let Some(count) = number_behind("heavy:0:", word) {
         return Some((SeatKind::Heavy(Side::First), count));
     }
-    let count = number_behind("heavy:1:", word)?;
-    Some((SeatKind::Heavy(Side::Second), count))
+    if let Some(count) = number_behind("heavy:1:", word) {
+        return Some((SeatKind::Heavy(Side::Second), count));
+    }
+    if let Some(count) = number_behind("above:0:", word) {
+        return Some((SeatKind::Above(Side::First), count));
+    }
+    let count = number_behind("above:1:", word)?;
+    Some((SeatKind::Above(Side::Second), count))
 }
 
 // Adds so many seats of a kind.

@@ -12,7 +12,7 @@ use sip_stream::text::{put, put_number};
 use sip_vector::Side;
 
 /// Room for the line that tells of them.
-const ROOM: usize = 256;
+const ROOM: usize = 320;
 
 /// How many seats of each kind a sketch has that no question used.
 #[derive(Clone, Copy, Debug, PartialEq, Eq, Default)]
@@ -25,10 +25,14 @@ pub struct SeatsLeft {
     pub second_sums: u64,
     /// For inner products.
     pub products: u64,
-    /// For large entries of side 0.
+    /// For heavy hitters of side 0.
     pub first_heavy: u64,
-    /// For large entries of side 1.
+    /// For heavy hitters of side 1.
     pub second_heavy: u64,
+    /// For large entries of side 0, also where others are below 0.
+    pub first_large: u64,
+    /// For those of side 1.
+    pub second_large: u64,
 }
 
 // Whether a seat is of this kind, and no question has used it.
@@ -80,6 +84,8 @@ impl SeatsLeft {
             products: count_left(SeatKind::Products, seats),
             first_heavy: count_left(SeatKind::Heavy(Side::First), seats),
             second_heavy: count_left(SeatKind::Heavy(Side::Second), seats),
+            first_large: count_left(SeatKind::Above(Side::First), seats),
+            second_large: count_left(SeatKind::Above(Side::Second), seats),
         }
     }
 
@@ -93,6 +99,8 @@ impl SeatsLeft {
             && self.products == 0
             && self.first_heavy == 0
             && self.second_heavy == 0
+            && self.first_large == 0
+            && self.second_large == 0
     }
 
     /// The line of advice that tells of them, in the words that ask for seats.
@@ -118,6 +126,16 @@ impl SeatsLeft {
             &mut gathered,
             SeatKind::Heavy(Side::Second),
             self.second_heavy,
+        );
+        put_left(
+            &mut gathered,
+            SeatKind::Above(Side::First),
+            self.first_large,
+        );
+        put_left(
+            &mut gathered,
+            SeatKind::Above(Side::Second),
+            self.second_large,
         );
         put(&mut gathered, b"\n");
         gathered

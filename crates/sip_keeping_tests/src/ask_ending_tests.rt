@@ -218,6 +218,8 @@ const NONE: SeatsLeft = SeatsLeft {
     products: 0,
     first_heavy: 0,
     second_heavy: 0,
+    first_large: 0,
+    second_large: 0,
 };
 
 const LEFT: &[Left<'static>] = &[
@@ -240,9 +242,11 @@ const LEFT: &[Left<'static>] = &[
             products: 4,
             first_heavy: 5,
             second_heavy: 6,
+            first_large: 7,
+            second_large: 8,
         },
         "sip: hint: seats that are left: entries:1 sums:0:2 sums:1:3 products:4 heavy:0:5 \
-heavy:1:6\n",
+heavy:1:6 above:0:7 above:1:8\n",
     ),
 ];
 

@@ -18,6 +18,7 @@ pub(crate) fn write_answer<K: Sink>(
     match given {
         QuestionGiven::Number { query, value } => write_number(report, query, *value),
         QuestionGiven::Pairs { query } => write_pairs(report, query, pairs),
+        QuestionGiven::Large { large } => write_pairs(report, &large.query(), pairs),
         QuestionGiven::Lookup { lookup, answer } => write_look(report, *lookup, *answer),
         QuestionGiven::Moment { moment, value } => write_moment(report, *moment, *value),
     }

@@ -12,7 +12,7 @@ use sip_field::{Field, M61, Seat};
 use sip_mle::Point;
 use sip_ports::{MemoryLink, MemorySink};
 use sip_questions::{Question, QuestionAsker, QuestionSeat};
-use sip_tree::{AugRoot, Root};
+use sip_tree::{AugRoot, Root, SplitRoot};
 use sip_vector::{CAP, Depth, Query};
 use sip_verifier::{Points, Running, Status, Weights, conclude_run};
 use sip_wire::Version;
@@ -24,7 +24,8 @@ const MOST_TOTAL: u32 = 1 << 20;
 
 /// What is kept of the vector of side 0 at a block of challenges: its root, its extension, the hash
 /// of its augmented root, and the sum of its numbers, of which none is below 0; and the extension
-/// of the vector of side 1.
+/// of the vector of side 1. Where large entries are asked for, the hash is that of its split root,
+/// and the sum that of the weights.
 #[derive(Clone, Copy)]
 pub struct Numbers {
     pub root: M61,
@@ -62,6 +63,13 @@ fn running_of(query: &Query, seat: Seat<M61, CAP>, numbers: &Numbers) -> Option<
                 numbers.hash.number(),
                 i64::from(numbers.total),
             )))
+        }
+        Query::Above { .. } if numbers.total <= MOST_TOTAL => {
+            Some(Running::SplitRoot(SplitRoot {
+                seat,
+                hash: numbers.hash.number(),
+                weight: u64::from(numbers.total),
+            }))
         }
         _ => None,
     }

@@ -2,13 +2,15 @@
 // alone and behind another one.
 ghost use Rattle.std.specs.Prelude.{◌≤◌, length};
 ghost use Rattle.sip_wire.specs.Table.{most_queries};
+ghost use Rattle.sip_wire.specs.Versions.{deepest};
 
+use crate::asking::Numbers;
 use crate::facts::expect;
-use crate::kinds::{Kind, MOMENT, asked_in};
+use crate::kinds::{Kind, MOMENT, asked_by, numbers_of_four};
 use sip_check_tests::frames::{CUBES, LAST, REVEAL, SUM};
 use sip_questions::Question;
 use sip_verifier::Status;
-use sip_wire::Reason;
+use sip_wire::{Reason, Version};
 use std::alloc::Global;
 use std::process::Abort;
 use std::test::Fail;
@@ -145,6 +147,7 @@ fn name_of(reason: Reason) -> &'static [u8] {
         Reason::BadFlags => b"BadFlags\n",
         Reason::HeavySibling => b"HeavySibling\n",
         Reason::Pairs => b"Pairs\n",
+        Reason::LightParent => b"LightParent\n",
         Reason::Sum => b"Sum\n",
         Reason::Total => b"Total\n",
         Reason::Root => b"Root\n",
@@ -193,12 +196,14 @@ const A_MOMENT: Before = Before {
 fn check_row(
     rt: &impl Abort,
     alloc: Global,
+    by: (Version, &Numbers),
     questions: &[Question],
     before: &Before,
     kind: &Kind,
     row: &Hostile,
 ) -> Result<(), Fail>
-    requires { length questions.now ≤ most_queries }
+    requires shallow { 2 ≤ deepest by.0 }
+    requires few { length questions.now ≤ most_queries }
 {
     let (name, replies, turns, round, reason) = row;
     let query = before.count.wrapping_add(1);
@@ -215,7 +220,7 @@ fn check_row(
         round: *round,
         reason: *reason,
     };
-    let came = asked_in(alloc, questions, incoming, 7)?;
+    let came = asked_by(alloc, by.0, by.1, questions, incoming, 7)?;
     let facts = [
         came.ended == Err(end),
         came.sent == said,
@@ -225,19 +230,24 @@ fn check_row(
     Ok(())
 }
 
-// Each of these replies is rejected, to the first question of a talk and to the second.
-pub(crate) fn check_hostile(
+// Each of these replies is rejected, to the first question of a talk and to the second, in this
+// version and by these numbers.
+pub(crate) fn check_hostile_of(
     rt: &impl Abort,
     alloc: Global,
+    by: (Version, &Numbers),
     kind: &Kind,
     rows: &[Hostile],
-) -> Result<(), Fail> {
+) -> Result<(), Fail>
+    requires { 2 ≤ deepest by.0 }
+{
     let question = kind.question;
     for row in rows {
-        check_row(rt, alloc, &[question], &NOTHING, kind, row)?;
+        check_row(rt, alloc, by, &[question], &NOTHING, kind, row)?;
         check_row(
             rt,
             alloc,
+            by,
             &[MOMENT.question, question],
             &A_MOMENT,
             kind,
@@ -245,4 +255,15 @@ pub(crate) fn check_hostile(
         )?;
     }
     Ok(())
+}
+
+// Each of these, in version 1, by the numbers of the vector of four.
+pub(crate) fn check_hostile(
+    rt: &impl Abort,
+    alloc: Global,
+    kind: &Kind,
+    rows: &[Hostile],
+) -> Result<(), Fail> {
+    let by = (Version::One, &numbers_of_four());
+    check_hostile_of(rt, alloc, by, kind, rows)
 }

@@ -27,7 +27,8 @@ pub(crate) fn served(
     let mut first = MemorySource::new(store.to_vec(alloc)?, chunk, unread.to_vec(alloc)?);
     let incoming = incoming.to_vec(alloc)?;
     let mut link = MemoryLink::new(alloc, incoming, chunk, unheard.to_vec(alloc)?);
-    let status = serve_store(alloc, form, &mut first, &mut link);
+    let mut again = MemorySource::new(store.to_vec(alloc)?, chunk, Vec::new(alloc));
+    let status = serve_store(alloc, form, &mut first, &mut again, &mut link);
     let sent = sent_in(alloc, link.talk())?;
     Ok((status, sent))
 }

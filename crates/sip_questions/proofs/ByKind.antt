@@ -24,6 +24,7 @@ use Rattle.sip_verifier.specs.runs.Asking.{IsAnswered, IsInterrupted, IsUnrecord
 use Rattle.sip_verifier.specs.runs.Manners.{Manner}
 use Rattle.sip_verifier.specs.Snapshots.{SinkState, between}
 use Rattle.sip_verifier.proofs.KeptAsks.{given_keeps, stop_keeps}
+use Rattle.sip_above.specs.declared.large.Large.{Large}
 use Rattle.sip_lookup.specs.declared.answer.LookAnswer.{LookAnswer}
 use Rattle.sip_lookup.specs.declared.lookup.Lookup.{Lookup}
 use Rattle.sip_lookup.specs.Lookups.{Looked}
@@ -35,7 +36,7 @@ use Rattle.sip_questions.specs.declared.asker.QuestionGiven.{QuestionGiven}
 use Rattle.sip_questions.specs.declared.asker.QuestionGiven.TheVariants as givens
 use Rattle.sip_questions.specs.declared.question.Question.{Question}
 use Rattle.sip_questions.specs.declared.question.Question.TheVariants as questions
-use Rattle.sip_questions.specs.Questions.{Answered, asking, by_query, by_lookup, by_moment, to_query, to_lookup, to_moment}
+use Rattle.sip_questions.specs.Questions.{Answered, asking, by_large, by_query, by_lookup, by_moment, to_large, to_query, to_lookup, to_moment}
 use Rattle.sip_questions.specs.Sittings.{query_given, stated}
 
 -- a question is asked and judged as what it is made of
@@ -55,6 +56,9 @@ module _ (version : Version) (depth : ℕ) (stream : List Update) (block : List 
 
   pub moment_like : (moment : Moment) → IsLike (by_moment version depth stream) (asking version depth stream) moment (questions.Moment moment) block to_moment
   moment_like moment = record { said = λ replies. refl; accepts = λ replies answer is. is; faulty = λ replies fault is. is; waits = λ replies is. is; unjudged = λ replies ended is. is }
+
+  pub large_like : (large : Large) → IsLike (by_large version depth stream) (asking version depth stream) large (questions.Large large) block to_large
+  large_like large = record { said = λ replies. refl; accepts = λ replies answer is. is; faulty = λ replies fault is. is; waits = λ replies is. is; unjudged = λ replies ended is. is }
 
 module _ {Q A : Type 0} (m : Manner Q A) (n : Manner Question Answered) (query : Q) (question : Question) (block : List ℕ) (to : A → Answered) (like : IsLike m n query question block to)
     (old new : Option (List TalkEvent)) where
@@ -143,6 +147,15 @@ module _ (version : Version) (depth : ℕ) (stream : List Update) (block : List 
     answer = to_moment x.answer;
     answered = answered_as (by_moment version depth stream) (asking version depth stream) moment (questions.Moment moment) block to_moment (moment_like version depth stream block moment) old new x.answer x.answered;
     states = ap (λ (said : ℤ). (questions.Moment moment, to_moment said)) x.states;
+  }
+
+  -- large entries
+  pub large_given : (large : Large) → Asks (by_large version depth stream) (large, block) old new (λ (_ : Unit {0}) (answer : List Entry). entries ≡ answer) (Ok tt)
+      → Asks (asking version depth stream) (questions.Large large, block) old new (λ given answered. stated entries given ≡ (questions.Large large, answered)) (Ok (givens.Large large))
+  large_given large x = record {
+    answer = to_large x.answer;
+    answered = answered_as (by_large version depth stream) (asking version depth stream) large (questions.Large large) block to_large (large_like version depth stream block large) old new x.answer x.answered;
+    states = ap (λ (es : List Entry). (questions.Large large, to_large es)) x.states;
   }
 
 -- the power of an extension that stands for the stream

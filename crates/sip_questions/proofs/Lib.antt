@@ -4,7 +4,7 @@ mod HelperKept
 mod NextAsked
 mod QuestionsLeft
 pub mod Refusals
-mod Refused
+pub mod Refused
 pub mod PromisedRuns
 mod SeatAsks
 mod StoreHeard
@@ -12,3 +12,7 @@ mod StoreReading
 pub mod StoreTalks
 pub mod StoreTurns
 mod Starting
+mod AnyAgain
+mod BehindHeld
+mod LargeKept
+mod WeighedAgain

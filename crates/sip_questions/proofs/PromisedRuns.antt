@@ -1,15 +1,19 @@
 -- A run of questions that keeps to the clauses of verdicts and of causes keeps to those of counts and of completeness: each question does what one of its kind does.
-use Rattle.std.proofs.Common.{◌≡◌, ◌≢◌, ℕ, Bool, true, false, List, [], ◌∷◌, ◌++◌, None, All, refl, sym, ap, ◌∙◌, arith}
+use Rattle.std.proofs.Common.{◌≡◌, ◌≢◌, ℕ, ◌/◌, ◌≤◌, pos, Bool, true, false, ◌&&◌, nat_le, nat_lt, Option, List, [], ◌∷◌, ◌++◌, None, All, refl, sym, ap, ◌∙◌, arith}
+use Rattle.std.proofs.lemmas.Bool.{ltb-true}
 use Rattle.std.proofs.lemmas.List.Elements.{All-cons, All-head, All-nil, All-tail}
 use Rattle.sip_ports.specs.Ports.{heard}
 use Rattle.sip_vector.specs.declared.update.Update.{Update}
 use Rattle.sip_vector.specs.Pieces.{cut}
-use Rattle.sip_vector.specs.Streams.{IsLegal}
+use Rattle.sip_vector.specs.Answers.{Answer, pairs}
+use Rattle.sip_vector.specs.Streams.{IsLegal, weight}
+use Rattle.sip_vector.specs.Thresholds.{is_wide, most_hitters}
 use Rattle.sip_stream.proofs.LegalRecords.{records_legal}
 use Rattle.sip_vector.specs.declared.query.Query.TheVariants.{Sub}
 use Rattle.sip_wire.specs.declared.message.Reason.TheVariants as reasons
 use Rattle.sip_wire.specs.Versions.{Speaks}
 use Rattle.sip_replies.specs.Replies.{Fault}
+use Rattle.sip_replies.specs.Talks.{asked_unless}
 use Rattle.sip_replies.proofs.Hearing.{heard-asked}
 use Rattle.sip_verifier.specs.declared.status.Status.{Status}
 use Rattle.sip_verifier.specs.CompletenessClause.{HasFewEntries}
@@ -17,6 +21,7 @@ use Rattle.sip_verifier.specs.Exchanges.{Exchange}
 use Rattle.sip_verifier.specs.Kinds.{kind_row}
 use Rattle.sip_verifier.specs.runs.Concluding.{Ended}
 use Rattle.sip_verifier.specs.runs.CountClause.{CountClause}
+use Rattle.sip_verifier.specs.runs.Manners as manners
 use Rattle.sip_verifier.specs.runs.Runs.{Run, updates}
 use Rattle.sip_verifier.specs.runs.VerdictClause.{VerdictClause}
 use Rattle.sip_verifier.specs.Snapshots.{Counts}
@@ -25,10 +30,16 @@ use Rattle.sip_verifier.proofs.Blocks.{IsBlock}
 use Rattle.sip_verifier.proofs.CompleteManners.{Judges, all_zipped, completes}
 use Rattle.sip_verifier.proofs.CountedQuestions.{few_wrong, question_counts}
 use Rattle.sip_verifier.proofs.HeardQuestions.{faulty_heard, question_heard}
+use Rattle.sip_verifier.proofs.HeardTalks.{heard_accepted}
 use Rattle.sip_verifier.proofs.HonestQuestions.{question_done, question_faulty}
 use Rattle.sip_verifier.proofs.RootAsked.{has_code}
 use Rattle.sip_verifier.proofs.WideQueries.{none_wide}
 use Rattle.sip_verifier.proofs.WrittenReports.{report_counts}
+use Rattle.sip_above.specs.declared.large.Large.{Large}
+use Rattle.sip_above.specs.Manner.{protocol_of}
+use Rattle.sip_above.specs.Questions as larges
+use Rattle.sip_above.proofs.HonestLarges.{large_done, large_faulty}
+use Rattle.sip_above.proofs.LargeCounts.{few_large, large_counts}
 use Rattle.sip_lookup.proofs.HonestLooks.{look_done, look_faulty}
 use Rattle.sip_lookup.proofs.WrittenLooks.{few_looks, look_counts}
 use Rattle.sip_moments.specs.Questions.{ask_of}
@@ -39,7 +50,16 @@ use Rattle.sip_questions.specs.declared.question.Question.TheVariants as questio
 use Rattle.sip_questions.specs.Counting.{FewFor, CountsOf, counting}
 use Rattle.sip_questions.specs.Honest.{CanAnswer, answer, honest_bytes, honesty}
 use Rattle.sip_questions.specs.Promises.{CanPose, CanRun, IsWhole, QuestionClauses}
-use Rattle.sip_questions.specs.Questions.{AcceptsOf, Answered, IsFaultyOf, Posed, asking, first_refusal, refusal_of, said_of, to_query, to_lookup, to_moment}
+use Rattle.sip_questions.specs.Questions.{AcceptsOf, Answered, IsFaultyOf, Posed, asking, first_refusal, refusal_of, said_of, to_large, to_query, to_lookup, to_moment}
+
+-- a weight with few entries of at least a threshold is not too wide
+few_narrow : (t n : ℕ) → n / t ≤ most_hitters → is_wide t (pos n) ≡ false
+few_narrow t n few = by_tests (nat_le t n) (nat_lt most_hitters (n / t)) refl refl
+  where
+    by_tests : (a b : Bool) → nat_le t n ≡ a → nat_lt most_hitters (n / t) ≡ b → (a && b) ≡ false
+    by_tests false b is also = refl
+    by_tests true false is also = refl
+    by_tests true true is also = absurd (let less = ltb-true most_hitters (n / t) also in omega (arith, less, few))
 
 -- the one test of a list that none passes
 one_false : (test : Bool) → first_true (test ∷ []) ≡ None → test ≡ false
@@ -63,6 +83,7 @@ module _ (r : Run Question) (x : Exchange) (can : CanRun r x) where
   few_one (questions.Query query) may = few_wrong r.version r.depth stream query may.0 legal
   few_one (questions.Lookup lookup) may = few_looks r.version r.depth stream legal lookup may
   few_one (questions.Moment moment) may = few_moments r.version r.depth stream legal moment
+  few_one (questions.Large large) may = few_large r.version r.depth stream large legal
 
   few_all : (qs : List Question) → All (CanPose r.version r.depth) qs → All (FewFor r.version r.depth stream) qs
   few_all [] all = All-nil (FewFor r.version r.depth stream)
@@ -73,6 +94,13 @@ module _ (r : Run Question) (x : Exchange) (can : CanRun r x) where
   one_counts t (questions.Query query) (to_query written) may accepts = question_counts r.version r.depth stream query t.block t.replies written may.0.1 legal accepts
   one_counts t (questions.Lookup lookup) (to_lookup written) may accepts = look_counts r.version r.depth stream legal (record { query = lookup; block = t.block; replies = t.replies }) written may accepts
   one_counts t (questions.Moment moment) (to_moment written) may accepts = moment_counts r.version r.depth stream legal (record { query = moment; block = t.block; replies = t.replies }) written accepts
+  one_counts t (questions.Large large) (to_large written) may accepts = large_counts r.version r.depth stream (record { query = large; block = t.block; replies = t.replies }) written legal accepts
+  one_counts t (questions.Query query) (to_large written) may accepts = absurd accepts
+  one_counts t (questions.Lookup lookup) (to_large written) may accepts = absurd accepts
+  one_counts t (questions.Moment moment) (to_large written) may accepts = absurd accepts
+  one_counts t (questions.Large large) (to_query written) may accepts = absurd accepts
+  one_counts t (questions.Large large) (to_lookup written) may accepts = absurd accepts
+  one_counts t (questions.Large large) (to_moment written) may accepts = absurd accepts
   one_counts t (questions.Query query) (to_lookup written) may accepts = absurd accepts
   one_counts t (questions.Query query) (to_moment written) may accepts = absurd accepts
   one_counts t (questions.Lookup lookup) (to_query written) may accepts = absurd accepts
@@ -118,6 +146,18 @@ module _ (r : Run Question) (x : Exchange) (can : CanRun r x) where
       let both = moments.accepted r.version r.depth stream can.some legal (record { query = moment; block = t.block; replies = t.replies }) written b a (may.answers, as_block t.block whole) accepts
       (agree ∙ ap (λ (l : List ℕ). l ++ a) (heard-asked r.version (ask_of moment) t.block t.replies (omega (arith, accepts.all)))) in
       (both.0, ap to_moment both.1)
+  one_accepted t (questions.Large large) (to_large written) b a may whole accepts agree =
+      let own : manners.Question Large = record { query = large; block = t.block; replies = t.replies } in
+      let P = protocol_of r.version r.depth stream own in
+      let both = large_done r.version r.depth stream can.some legal own may.pose.0.0 may.pose.1 whole.size written b a accepts
+      (agree ∙ ap (λ (l : List ℕ). l ++ a) (heard_accepted P (larges.ask_of large) t.block t.replies (pairs written) P.unasked accepts)) in
+      (both.0, ap to_large both.1)
+  one_accepted t (questions.Query query) (to_large written) b a may whole accepts agree = absurd accepts
+  one_accepted t (questions.Lookup lookup) (to_large written) b a may whole accepts agree = absurd accepts
+  one_accepted t (questions.Moment moment) (to_large written) b a may whole accepts agree = absurd accepts
+  one_accepted t (questions.Large large) (to_query written) b a may whole accepts agree = absurd accepts
+  one_accepted t (questions.Large large) (to_lookup written) b a may whole accepts agree = absurd accepts
+  one_accepted t (questions.Large large) (to_moment written) b a may whole accepts agree = absurd accepts
   one_accepted t (questions.Query query) (to_lookup written) b a may whole accepts agree = absurd accepts
   one_accepted t (questions.Query query) (to_moment written) b a may whole accepts agree = absurd accepts
   one_accepted t (questions.Lookup lookup) (to_query written) b a may whole accepts agree = absurd accepts
@@ -135,6 +175,12 @@ module _ (r : Run Question) (x : Exchange) (can : CanRun r x) where
   one_faulty t (questions.Moment moment) fault b a may whole faulty other agree =
       moments.faulty r.version r.depth stream can.some legal (record { query = moment; block = t.block; replies = t.replies }) fault b a (may.answers, as_block t.block whole) faulty other
       (agree ∙ ap (λ (l : List ℕ). l ++ a) (heard-asked r.version (ask_of moment) t.block t.replies (omega (arith, faulty.taken))))
+  one_faulty t (questions.Large large) fault b a may whole faulty other agree =
+      let own : manners.Question Large = record { query = large; block = t.block; replies = t.replies } in
+      large_faulty r.version r.depth stream can.some legal own may.pose.0.0 may.pose.1 whole.size fault b a faulty other
+      (agree ∙ ap (λ (l : List ℕ). l ++ a)
+      (ap (λ (u : Option Answer). heard (asked_unless u r.version (larges.ask_of large) t.block t.replies)) faulty.asked
+      ∙ heard-asked r.version (larges.ask_of large) t.block t.replies (omega (arith, faulty.taken))))
 
   judges : Judges asking honesty r x CanBeJudged
   judges = record {
@@ -149,6 +195,9 @@ module _ (r : Run Question) (x : Exchange) (can : CanRun r x) where
       rw narrow refl
   not_refused number (questions.Lookup lookup) few = refl
   not_refused number (questions.Moment moment) few = rw few.low refl
+  not_refused number (questions.Large large) few =
+      let narrow : is_wide large.at_least (pos (weight stream large.side)) ≡ false = few_narrow large.at_least (weight stream large.side) few in
+      rw narrow refl
 
   none_refused : (number : ℕ) (qs : List Question) → All (CanAnswer r.version r.depth stream) qs → first_refusal stream number qs ≡ None
   none_refused number [] all = refl

@@ -46,6 +46,7 @@ pub can_prop : (version : Version) (depth : ℕ) (seat : QuestionSeat) → IsPro
 can_prop version depth (seats.Query s) = hlevel props
 can_prop version depth (seats.Lookup lookup root) = hlevel props
 can_prop version depth (seats.Moment moment point) = hlevel props
+can_prop version depth (seats.Large large root) = hlevel props
 
 -- each of some seats can be asked
 pub can_of : (version : Version) (depth : ℕ) (all : List QuestionSeat) (n : ℕ) (own : QuestionSeat) → n < length all → get_or all n own ≡ own → ∥ All (CanAsk version depth) all ∥₁ → CanAsk version depth own

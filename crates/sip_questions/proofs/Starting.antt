@@ -1,7 +1,8 @@
 -- A refusal is what a run of questions starts with, where there is one.
-use Rattle.std.proofs.Common.{◌≡◌, ℕ, suc, Bool, true, false, List, [], ◌∷◌, Option, Some, None, Err}
+use Rattle.std.proofs.Common.{◌≡◌, ℕ, suc, Bool, true, false, List, [], ◌∷◌, Option, Some, None, Err, pos}
 use Rattle.std.specs.Prelude.{if◌then◌else◌}
 use Rattle.sip_vector.specs.declared.update.Side.{Side}
+use Rattle.sip_vector.specs.Thresholds.{is_wide}
 use Rattle.sip_wire.specs.declared.version.Version.{Version}
 use Rattle.sip_verifier.specs.declared.status.Status.{Status}
 use Rattle.sip_verifier.specs.declared.status.Status.TheVariants as statuses
@@ -24,6 +25,8 @@ module _ (version : Version) (depth : ℕ) (weight : Side → ℕ) where
   never_memory number (seats.Query seat ∷ more) e =
       one_other (is_wide_seat seat.query seat.running) (statuses.TooWide number) (first_by (refusal_at weight) (suc number) more) (λ is. let no = is in cc) (never_memory (suc number) more) e
   never_memory number (seats.Lookup lookup root ∷ more) e = never_memory (suc number) more e
+  never_memory number (seats.Large large root ∷ more) e =
+      one_other (is_wide large.at_least (pos root.weight)) (statuses.TooWide number) (first_by (refusal_at weight) (suc number) more) (λ is. let no = is in cc) (never_memory (suc number) more) e
   never_memory number (seats.Moment moment point ∷ more) e =
       one_other (is_too_high (weight moment.side) moment.degree) (statuses.TooHigh number) (first_by (refusal_at weight) (suc number) more) (λ is. let no = is in cc) (never_memory (suc number) more) e
 

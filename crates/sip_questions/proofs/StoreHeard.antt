@@ -1,18 +1,22 @@
 -- What a helper has heard of a store.
-use Rattle.std.proofs.Common.{◌≡◌, ◌≢◌, ℕ, pos, ◌+◌, ◌^◌, ◌<◌, ◌≤◌, Bool, true, false, ◌||◌, nat_lt, if◌then◌else◌, List, [], ◌∷◌, ◌++◌, Option, Some, None, refl, sym, ap, subst, ◌∙◌, arith}
+use Rattle.std.proofs.Common.{◌≡◌, ◌≢◌, ℕ, pos, ◌+◌, ◌^◌, ◌<◌, ◌≤◌, Bool, true, false, ◌&&◌, ◌||◌, nat_abs, nat_lt, if◌then◌else◌, List, [], ◌∷◌, ◌++◌, drop, length, map, take, Option, Some, None, refl, sym, ap, subst, ◌∙◌, inl, inr, arith}
 use Rattle.std.specs.Prelude.{All, IsTrue, MatchOption, get_or, is_none}
-use Rattle.std.specs.List.{list_all}
+use Rattle.std.specs.List.{AllByRecursion, list_all}
 use Rattle.std.specs.Option.{option_map}
-use Rattle.std.proofs.lemmas.Bool.{and_from, and_parts, le-leb, lt-ltb}
-use Rattle.std.proofs.lemmas.List.Sums.{fold-append, list_all-from_AllPass}
-use Rattle.std.proofs.lemmas.List.Elements.{All-nil}
+use Rattle.std.proofs.lemmas.Bool.{and_from, and_parts, cases_Bool, le-leb, lt-ltb}
+use Rattle.std.proofs.lemmas.List.{length-map, length-take-le, map-append, take_at}
+use Rattle.std.proofs.lemmas.List.Sums.{fold-append, list_all-from_AllPass, sum_by-cons}
+use Rattle.std.proofs.lemmas.List.Elements.{All-from_recursion, All-nil}
 use Rattle.std.proofs.lemmas.List.Folds.{list_all-append}
+use Rattle.std.proofs.lemmas.Bool.Decides.{nat_tests}
+use Rattle.sip_vector.specs.Limits.{most_depth}
+use Rattle.sip_vector.specs.declared.update.Side.{Side}
 use Rattle.sip_vector.specs.declared.update.Side.TheVariants.{First, Second}
 use Rattle.sip_vector.specs.declared.update.Update.{Update}
-use Rattle.sip_vector.specs.Streams.{IsLegal, most_weight, weight}
+use Rattle.sip_vector.specs.Splits.{absolute}
+use Rattle.sip_vector.specs.Streams.{IsLegal, most_weight, of_side, same_side, weight}
 use Rattle.sip_vector.specs.Vectors.{SideVector, with_update}
-use Rattle.sip_vector.proofs.Sides.{weight-append}
-use Rattle.sip_wire.specs.declared.message.Held.{Held}
+use Rattle.sip_vector.proofs.Sides.{weight-append, weight-one}
 use Rattle.sip_wire.specs.declared.message.Message.TheVariants as messages
 use Rattle.sip_wire.specs.declared.version.Version.TheVariants.{Two}
 use Rattle.sip_wire.specs.Spelling.{all_hold, fits, has_room}
@@ -23,11 +27,10 @@ use Rattle.sip_helper.specs.Shown.{opened, shown_vector}
 use Rattle.sip_helper.specs.Streams.{stream_heard}
 use Rattle.sip_helper.specs.Turns.{HelperState, fresh, is_allowed, part_of, stays_legal, step, weights_after, with_updates}
 use Rattle.sip_helper.specs.Vectors.{Vectors}
-use Rattle.sip_vector.specs.declared.tally.Tally.{Tally}
 use Rattle.sip_vector.specs.Tallies.{tally}
 use Rattle.sip_stream.specs.declared.form.Form.{Form}
 use Rattle.sip_stream.specs.Reading.{IsAfter, Reading, behind}
-use Rattle.sip_questions.specs.StoreFronts.{held_of}
+use Rattle.sip_questions.specs.StoreFronts.{heard_of}
 use Rattle.sip_questions.specs.inside.StoreHearing.{HasHeard, HearsOn, IsAsFar}
 use Rattle.sip_questions.proofs.StoreReading.{takes_more, takes_none}
 
@@ -47,27 +50,88 @@ items_below depth before us all =
     let both = list_all-from_AllPass below (before ++ us) (λ k d h. lt-ltb (get_or (before ++ us) k d).item (2 ^ depth) (all k d h)) in
     (and_parts (list_all below before) (list_all below us) (sym (list_all-append below before us) ∙ both)).1
 
+-- ---- sizes are of the same items, and as heavy
+
+sizes_below : (n : ℕ) (us : List Update) → list_all (λ (u : Update). nat_lt u.item n) (map absolute us) ≡ list_all (λ (u : Update). nat_lt u.item n) us
+sizes_below n [] = refl
+sizes_below n (u ∷ us) = ap (λ (b : Bool). nat_lt u.item n && b) (sizes_below n us)
+
+sizes_weigh : (us : List Update) (side : Side) → weight (map absolute us) side ≡ weight us side
+sizes_weigh [] side = refl
+sizes_weigh (u ∷ us) side = elim (cases_Bool (same_side u.side side)) [
+  | inl same ↦ rw (same, sum_by-cons (λ (v : Update). nat_abs v.delta) u (of_side us side), sum_by-cons (λ (v : Update). nat_abs v.delta) (absolute u) (of_side (map absolute us) side)) (ap (λ (n : ℕ). nat_abs u.delta + n) (sizes_weigh us side))
+  | inr other ↦ rw other (sizes_weigh us side)
+]
+
+heard_weighs : (z : Bool) (us : List Update) (side : Side) → weight (heard_of z us) side ≡ weight us side
+heard_weighs false us side = refl
+heard_weighs true us side = sizes_weigh us side
+
+heard_legal : (z : Bool) (depth : ℕ) (w : Weights) (us : List Update) → stays_legal depth w (heard_of z us) ≡ stays_legal depth w us
+heard_legal false depth w us = refl
+heard_legal true depth w us = rw (sizes_below (2 ^ depth) us, sizes_weigh us First, sizes_weigh us Second) refl
+
+heard_joined : (z : Bool) (us vs : List Update) → heard_of z us ++ heard_of z vs ≡ heard_of z (us ++ vs)
+heard_joined false us vs = refl
+heard_joined true us vs = sym (map-append absolute us vs)
+
+heard_long : (z : Bool) (us : List Update) → length (heard_of z us) ≡ length us
+heard_long false us = refl
+heard_long true us = length-map us absolute
+
+-- the front of a block of which sizes were taken
+pub front_heard : (z : Bool) (came : ℕ) (block changed : List Update) → came ≤ length block → changed ≡ heard_of z (take came block) → take came (changed ++ drop came block) ≡ heard_of z (take came block)
+front_heard z came block changed within is =
+    let size = length-take-le came block within in
+    let long : came ≡ length changed = omega (arith, ap length is, heard_long z (take came block), size) in
+    take_at changed (drop came block) came (sym long) ∙ is
+
+second_of : (side : Side) → same_side side First ≡ false → same_side side Second ≡ true
+second_of First other = absurd cc
+second_of Second other = refl
+
+-- each delta is within the weight of its side
+small_by : (us : List Update) → weight us First ≤ most_weight → weight us Second ≤ most_weight → AllByRecursion (λ (u : Update). nat_abs u.delta ≤ most_weight) us
+small_by [] first second = tt
+small_by (u ∷ us) first second =
+    let one = weight-append (u ∷ []) us First in
+    let two = weight-append (u ∷ []) us Second in (
+      elim (cases_Bool (same_side u.side First)) [
+        | inl same ↦ omega (arith, first, one, weight-one u First same)
+        | inr other ↦ omega (arith, second, two, weight-one u Second (second_of u.side other))
+      ],
+      small_by us (omega (arith, first, one)) (omega (arith, second, two)),
+    )
+
+-- the deltas of records that a reader took are small
+pub small_then : (new : Reading) (before us : List Update) → IsAfter new (before ++ us) → All (λ (u : Update). nat_abs u.delta ≤ most_weight) us
+small_then new before us now =
+    let first = now.legal.first in
+    let second = now.legal.second in
+    All-from_recursion (λ (u : Update). nat_abs u.delta ≤ most_weight) us
+    (small_by us (omega (arith, first, weight-append before us First)) (omega (arith, second, weight-append before us Second)))
+
 -- records that a reader took, by a helper that is as far
-pub may_come : (s : HelperState) (r new : Reading) (before us : List Update) → IsAsFar s r → IsAfter r before → new.depth ≡ r.depth → IsAfter new (before ++ us)
-    → IsTrue (is_allowed s (messages.Updates (record { items = us })))
-may_come s r new before us far was depth now =
+pub may_come : (z : Bool) (s : HelperState) (r new : Reading) (before us : List Update) → IsAsFar s r → IsAfter r before → new.depth ≡ r.depth → IsAfter new (before ++ us)
+    → IsTrue (is_allowed s (messages.Updates (record { items = heard_of z us })))
+may_come z s r new before us far was depth now =
     let legal = subst (λ d. IsLegal d (before ++ us)) depth now.legal in
     let first = weight-append before us First in
     let second = weight-append before us Second in
     let one : s.weights.first + weight us First ≤ most_weight = omega (arith, first, far.first, was.weights First, legal.first) in
     let two : s.weights.second + weight us Second ≤ most_weight = omega (arith, second, far.second, was.weights Second, legal.second) in
-    allowed_by s s.heard r.depth us far.part
-    (and_from _ _ (items_below r.depth before us legal.items) (and_from _ _ (le-leb _ most_weight one) (le-leb _ most_weight two)))
+    allowed_by s s.heard r.depth (heard_of z us) far.part
+    (subst (λ (b : Bool). b ≡ true) (sym (heard_legal z r.depth s.weights us)) (and_from _ _ (items_below r.depth before us legal.items) (and_from _ _ (le-leb _ most_weight one) (le-leb _ most_weight two))))
 
 -- and it is as far then
-pub far_then : (s next : HelperState) (r new : Reading) (before us : List Update) → IsAsFar s r → IsAfter r before → new.depth ≡ r.depth → IsAfter new (before ++ us) → HasHeard s next us → IsAsFar next new
-far_then s next r new before us far was depth now heard =
+pub far_then : (z : Bool) (s next : HelperState) (r new : Reading) (before us : List Update) → IsAsFar s r → IsAfter r before → new.depth ≡ r.depth → IsAfter new (before ++ us) → HasHeard z s next us → IsAsFar next new
+far_then z s next r new before us far was depth now heard =
     let first = weight-append before us First in
     let second = weight-append before us Second in
     let own = now.weights First in
     let other = now.weights Second in
-    let one : s.weights.first + weight us First ≡ new.first = omega (arith, first, far.first, was.weights First, own) in
-    let two : s.weights.second + weight us Second ≡ new.second = omega (arith, second, far.second, was.weights Second, other) in
+    let one : s.weights.first + weight (heard_of z us) First ≡ new.first = omega (arith, heard_weighs z us First, first, far.first, was.weights First, own) in
+    let two : s.weights.second + weight (heard_of z us) Second ≡ new.second = omega (arith, heard_weighs z us Second, second, far.second, was.weights Second, other) in
     subst (λ (h : HelperState). IsAsFar h new) (sym heard.1) (record {
       part = far.part ∙ ap (λ n. Some n) (sym depth);
       first = one;
@@ -103,30 +167,35 @@ vectors_more false false (Some x) us vs = ap (λ (y : Vectors). Some y) (updates
 same_state : (s : HelperState) (w x : Weights) (v y : Option Vectors) → w ≡ x → v ≡ y → ◌≡◌ {A = HelperState} (record s { weights = w; vectors = v }) (record s { weights = x; vectors = y })
 same_state s w x v y e f = cc
 
-pub heard_more : (a b c : HelperState) (us vs : List Update) → HasHeard a b us → HasHeard b c vs → HasHeard a c (us ++ vs)
-heard_more a b c us vs one two = (
+pub heard_more : (z : Bool) (a b c : HelperState) (us vs : List Update) → HasHeard z a b us → HasHeard z b c vs → HasHeard z a c (us ++ vs)
+heard_more z a b c us vs one two = (
   one.0 || two.0,
   two.1
-      ∙ ap (λ (h : HelperState). step h two.0 (messages.Updates (record { items = vs }))) one.1
-      ∙ same_state a _ _ _ _ (weights_more a.weights us vs) (vectors_more one.0 two.0 a.vectors us vs),
+      ∙ ap (λ (h : HelperState). step h two.0 (messages.Updates (record { items = heard_of z vs }))) one.1
+      ∙ same_state a _ _ _ _ (weights_more a.weights (heard_of z us) (heard_of z vs)) (vectors_more one.0 two.0 a.vectors (heard_of z us) (heard_of z vs))
+      ∙ ap (λ (l : List Update). step a (one.0 || two.0) (messages.Updates (record { items = l }))) (heard_joined z us vs),
 )
 
 vectors_none : (v : Option Vectors) → v ≡ option_map (λ x. with_updates x []) v
 vectors_none None = refl
 vectors_none (Some x) = refl
 
-pub heard_none : (s : HelperState) → HasHeard s s []
-heard_none s = (false, same_state s s.weights _ s.vectors _ (same_weights _ _ _ _ (omega arith) (omega arith)) (vectors_none s.vectors))
+heard_nothing : (s : HelperState) → s ≡ step s false (messages.Updates (record { items = [] }))
+heard_nothing s = same_state s s.weights _ s.vectors _ (same_weights _ _ _ _ (omega arith) (omega arith)) (vectors_none s.vectors)
+
+pub heard_none : (z : Bool) (s : HelperState) → HasHeard z s s []
+heard_none false s = (false, heard_nothing s)
+heard_none true s = (false, heard_nothing s)
 
 -- ---- with the reader
 
-pub hears_none : (s : HelperState) (r : Reading) (had : Option (List ℕ)) → IsAsFar s r → r.is_spent ≡ false → HearsOn s s r r had had []
-hears_none s r had far ready = record { takes = takes_none r had ready; heard = heard_none s; far = far }
+pub hears_none : (z : Bool) (s : HelperState) (r : Reading) (had : Option (List ℕ)) → IsAsFar s r → r.is_spent ≡ false → HearsOn z s s r r had had []
+hears_none z s r had far ready = record { takes = takes_none r had ready; heard = heard_none z s; far = far }
 
-pub hears_more : (s t next : HelperState) (a b c : Reading) (had mid left : Option (List ℕ)) (us vs : List Update) → HearsOn s t a b had mid us → HearsOn t next b c mid left vs → HearsOn s next a c had left (us ++ vs)
-hears_more s t next a b c had mid left us vs one two = record {
+pub hears_more : (z : Bool) (s t next : HelperState) (a b c : Reading) (had mid left : Option (List ℕ)) (us vs : List Update) → HearsOn z s t a b had mid us → HearsOn z t next b c mid left vs → HearsOn z s next a c had left (us ++ vs)
+hears_more z s t next a b c had mid left us vs one two = record {
   takes = takes_more a b c had mid left us vs one.takes two.takes;
-  heard = heard_more s t next us vs one.heard two.heard;
+  heard = heard_more z s t next us vs one.heard two.heard;
   far = two.far;
 }
 
@@ -172,10 +241,12 @@ pub shown_some : {V : Type 0} (f : V → SideVector) (s : Option SideVector) (o 
 shown_some f s None some shown = absurd (let no = some in cc)
 shown_some f s (Some v) some shown = (f v, shown)
 
-pub held_told : (t : Tally) (us : List Update) (n : ℕ) → t ≡ tally us → n ≡ t.fingerprint → ◌≡◌ {A = Held} (record { records = t.count; first = t.first; second = t.second; fingerprint = n }) (held_of us)
-held_told t us n is same = subst (λ x. ◌≡◌ {A = Held} (record { records = t.count; first = t.first; second = t.second; fingerprint = x }) (held_of us)) (sym same) (ap (λ (x : Tally). record { records = x.count; first = x.first; second = x.second; fingerprint = x.fingerprint }) is)
-
 -- the end of a stream has a spelling
 pub end_fits : IsTrue (fits Two messages.EndStream)
 unfolding fits has_room all_hold
 end_fits = refl
+
+-- and so has the opening of a talk in version 2
+pub open_fits : (depth : ℕ) → 1 ≤ depth → depth ≤ most_depth → IsTrue (fits Two (messages.Open 2 depth))
+unfolding fits has_room all_hold
+open_fits depth some most = grind (arith, nat_tests)

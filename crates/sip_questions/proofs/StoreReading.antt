@@ -1,6 +1,6 @@
 -- What a reader has taken off a store.
-use Rattle.std.proofs.Common.{◌≡◌, ℕ, ◌+◌, ◌<◌, ◌≤◌, false, nat_lt, List, [], ◌∷◌, ◌++◌, length, take, Option, Some, None, Ok, Err, refl, sym, ap, subst, ◌∙◌, append_assoc, append-nil, length-append, arith, inl, inr}
-use Rattle.std.specs.Prelude.{IfSome, slice_set}
+use Rattle.std.proofs.Common.{◌≡◌, ℕ, ◌+◌, ◌<◌, ◌≤◌, false, Result, nat_lt, List, [], ◌∷◌, ◌++◌, length, take, Option, Some, None, Ok, Err, refl, sym, ap, subst, ◌∙◌, append_assoc, append-nil, length-append, arith, inl, inr}
+use Rattle.std.specs.Prelude.{IfSome, is_err, slice_set}
 use Rattle.std.specs.Io.KnownBytes.{Consumes}
 use Rattle.std.proofs.Math.Seq.{take-append_seam}
 use Rattle.std.proofs.lemmas.Bool.{cases_Bool, ltb-true, ltb-false}
@@ -18,7 +18,7 @@ use Rattle.sip_stream.proofs.Copies.{read_front}
 use Rattle.sip_stream.proofs.RecordsRead.{came_front, records_end}
 use Rattle.sip_questions.specs.declared.store_status.StoreStatus.TheVariants as statuses
 use Rattle.sip_questions.specs.StoreFronts.{Hears, IsFront, IsUnheard, Recalls, status_of_fault}
-use Rattle.sip_questions.specs.inside.StoreHearing.{IsReadOut, StopsWithin, Takes}
+use Rattle.sip_questions.specs.inside.StoreHearing.{IsReadOut, ReadsFront, StopsWithin, Takes}
 
 -- ---- records are taken
 
@@ -190,6 +190,14 @@ module _ (r : Recalls) (form : Form) (old new : Reading) (store left : Option (L
       few = few;
       front = front_if store refl;
     }
+
+-- so where nothing stopped it, and what it tells is told of these
+pub hears_read : (r : Recalls) (form : Form) (old new : Reading) (store left : Option (List ℕ)) (most : ℕ) (result : Result Unit StreamFault) → old.depth ≡ r.depth → old.form ≡ form → IsAfter old [] → Tells old [] → r.count ≡ most
+    → is_err result ≡ false → ReadsFront old new store left most result → (us : List Update) × Hears r form store left us × Tells new us
+hears_read r form old new store left most (Ok x) depth same_form unread first count went reads =
+    let (us, few, takes, out) = reads in
+    (us, hears_front r form old new store left us depth same_form unread takes (omega (arith, few, count)) (λ less. out (omega (arith, less, count))), takes.tells [] unread first)
+hears_read r form old new store left most (Err e) depth same_form unread first count went reads = absurd (let no = went in cc)
 
 -- and where it stopped, the records were not heard
 module _ (r : Recalls) (form : Form) (old : Reading) (depth : old.depth ≡ r.depth) (same_form : old.form ≡ form) (unread : IsAfter old []) where

@@ -4,6 +4,8 @@ use Rattle.std.specs.Prelude.{IsTrue}
 use Rattle.sip_ports.specs.declared.port.TalkEvent.{TalkEvent}
 use Rattle.sip_ports.specs.Ports.{GoesOn, ins, outs}
 use Rattle.sip_ports.proofs.TalkLemmas.{GoesOn-trans, ins-append}
+use Rattle.sip_vector.specs.declared.query.Query.{Query}
+use Rattle.sip_vector.specs.declared.query.Query.TheVariants as queries
 use Rattle.sip_wire.specs.declared.kind.Place.TheVariants as places
 use Rattle.sip_wire.specs.declared.message.Message.{Message}
 use Rattle.sip_wire.specs.declared.message.Message.TheVariants as messages
@@ -22,6 +24,16 @@ use Rattle.sip_questions.specs.Stores.{StopsAtRecall, awaiting, may_recall, reca
 use Rattle.sip_questions.specs.inside.StoreTurns.{IsAsked}
 
 -- ---- the opening
+
+-- no query comes before it
+query_out : (q : Query) → IsTrue (is_allowed fresh_questions (messages.Query q)) → ⊥
+query_out (queries.Sub lo hi) may = let no = may in cc
+query_out (queries.Range side lo hi) may = let no = may in cc
+query_out (queries.F2 side) may = let no = may in cc
+query_out queries.Inner may = let no = may in cc
+query_out (queries.Heavy side at_least) may = let no = may in cc
+query_out (queries.Share side num den) may = let no = may in cc
+query_out (queries.Above side at_least) may = let no = may in cc
 
 -- it is taken whole
 pub record Opened (old mid : Option (List TalkEvent)) (next : QuestionHelper) (got : List ℕ) : Type 0 where
@@ -49,7 +61,7 @@ module _ (old mid : Option (List TalkEvent)) (next : QuestionHelper) (got : List
   opened_by messages.Bye refused is may state going talk whole = absurd (let no : true ≡ false = sym (ap (λ (s : QuestionHelper). s.helper.done) state) ∙ going in cc)
   opened_by (messages.Updates us) refused is may state going talk whole = absurd (let no = may in cc)
   opened_by messages.EndStream refused is may state going talk whole = absurd (let no = may in cc)
-  opened_by (messages.Query q) refused is may state going talk whole = absurd (let no = may in cc)
+  opened_by (messages.Query q) refused is may state going talk whole = absurd (query_out q may)
   opened_by (messages.Reveal r) refused is may state going talk whole = absurd (let no = may in cc)
   opened_by (messages.Claim a) refused is may state going talk whole = absurd (let no = may in cc)
   opened_by (messages.Poly a b c) refused is may state going talk whole = absurd (let no = may in cc)

@@ -10,6 +10,7 @@ use Rattle.sip_verifier.specs.Snapshots.{Counts}
 use Rattle.sip_verifier.specs.runs.Promises.{Promises}
 use Rattle.sip_verifier.specs.runs.Runs.{Run}
 use Rattle.sip_verifier.specs.Tasks.{CanBeAsked}
+use Rattle.sip_above.specs.Questions.{CanAskLarge}
 use Rattle.sip_lookup.specs.Lookups.{CanLook}
 use Rattle.sip_moments.specs.Moments.{IsDegree}
 use Rattle.sip_questions.specs.declared.question.Question.{Question}
@@ -26,6 +27,7 @@ CanPose version depth (questions.Query query) =
     CanBeAsked depth query × Speaks version depth query
 CanPose version depth (questions.Lookup lookup) = CanLook depth lookup
 CanPose version depth (questions.Moment moment) = IsDegree moment.degree
+CanPose version depth (questions.Large large) = CanAskLarge version depth large
 
 -- a block has a challenge for each level
 pub record IsWhole (depth : ℕ) (block : List ℕ) : Type 0 where

@@ -1,5 +1,5 @@
 -- What is seen of the questions of a run while they are asked.
-use Rattle.std.specs.Prelude.{◌≡◌, ◌≤◌, ℕ, IsSomeAnd, IsTrue, Bool, false, All, List, [], map}
+use Rattle.std.specs.Prelude.{◌≡◌, ◌≤◌, ℕ, pos, IsSomeAnd, IsTrue, Bool, false, All, List, [], map}
 use Rattle.std.specs.Prelude.{length, Option, Some, None, Result, Ok, Err, if◌then◌else◌}
 use Rattle.sip_heavy.specs.Checking.{Space}
 use Rattle.sip_subvec.specs.Replies.{most_entries}
@@ -9,6 +9,7 @@ use Rattle.sip_vector.specs.declared.update.Entry.{Entry}
 use Rattle.sip_vector.specs.declared.update.Side.{Side}
 use Rattle.sip_vector.specs.declared.update.Update.{Update}
 use Rattle.sip_vector.specs.Answers.{pairs, number}
+use Rattle.sip_vector.specs.Thresholds.{is_wide}
 use Rattle.sip_wire.specs.declared.version.Version.{Version}
 use Rattle.sip_wire.specs.Versions.{Speaks}
 use Rattle.sip_verifier.specs.declared.asker.Unanswered.{Unanswered}
@@ -19,9 +20,11 @@ use Rattle.sip_verifier.specs.declared.session.Verdict.TheVariants as verdicts
 use Rattle.sip_verifier.specs.declared.status.Status.{Status}
 use Rattle.sip_verifier.specs.declared.status.Status.TheVariants as statuses
 use Rattle.sip_verifier.specs.QuerySeats.{RunningNumbers, RunsOn, is_seat, point_is, root_is}
+use Rattle.sip_verifier.specs.QuerySeats.{split_root_is}
 use Rattle.sip_verifier.specs.Rooms.{most_nodes, most_places}
 use Rattle.sip_verifier.specs.runs.Askers.{Remaining}
 use Rattle.sip_verifier.specs.Widths.{is_wide_seat}
+use Rattle.sip_above.specs.Questions.{CanAskLarge, most_nodes_of, query_of}
 use Rattle.sip_lookup.specs.Lookups.{CanLook, item_of}
 use Rattle.sip_lookup.specs.Sittings.{looked_of}
 use Rattle.sip_moments.specs.Moments.{IsDegree, is_too_high}
@@ -32,31 +35,36 @@ use Rattle.sip_questions.specs.declared.question.Question.TheVariants as questio
 use Rattle.sip_questions.specs.declared.seat.QuestionSeat.{QuestionSeat}
 use Rattle.sip_questions.specs.declared.seat.QuestionSeat.TheVariants as seats
 use Rattle.sip_questions.specs.Questions.{Answered, first_by, to_query, to_lookup, to_moment}
+use Rattle.sip_questions.specs.Questions.{to_large}
 
 -- ---- a seat
 
--- the query whose running numbers serve a question too: of an entry for a lookup, and of the second
--- moment of its side for a moment
+-- the query whose running numbers serve a question too: of an entry for a lookup, of the second
+-- moment of its side for a moment, and its own for large entries
 abbrev pub query_like : Question → Query
 query_like (questions.Query query) = query
 query_like (questions.Lookup lookup) = Sub (item_of lookup) (item_of lookup)
 query_like (questions.Moment moment) = F2 moment.side
+query_like (questions.Large large) = query_of large
 
 -- what is asked at a seat, at which challenges, and by which numbers
 abbrev pub question_at : QuestionSeat → Question
 question_at (seats.Query seat) = questions.Query seat.query
 question_at (seats.Lookup lookup root) = questions.Lookup lookup
 question_at (seats.Moment moment point) = questions.Moment moment
+question_at (seats.Large large root) = questions.Large large
 
 abbrev pub block_at : QuestionSeat → List ℕ
 block_at (seats.Query seat) = seat.block
 block_at (seats.Lookup lookup root) = root.seat
 block_at (seats.Moment moment point) = point.seat
+block_at (seats.Large large root) = root.seat
 
 abbrev pub running_at : QuestionSeat → RunningNumbers
 running_at (seats.Query seat) = seat.running
 running_at (seats.Lookup lookup root) = root_is root.value
 running_at (seats.Moment moment point) = point_is point.value
+running_at (seats.Large large root) = split_root_is root.hash root.weight
 
 abbrev pub ask_at : QuestionSeat → Question × List ℕ
 ask_at seat = (question_at seat, block_at seat)
@@ -74,17 +82,21 @@ CanAsk version depth (seats.Lookup lookup root) =
     (length root.seat ≡ depth) × CanLook depth lookup
 CanAsk version depth (seats.Moment moment point) =
     (length point.seat ≡ depth) × IsDegree moment.degree
+CanAsk version depth (seats.Large large root) =
+    (length root.seat ≡ depth) × CanAskLarge version depth large
 
 -- how many places the pairs of its answer need, and how many nodes a level of the replies may have
 abbrev pub places_at : QuestionSeat → ℕ
 places_at (seats.Query seat) = most_places seat.query seat.running
 places_at (seats.Lookup lookup root) = most_entries
 places_at (seats.Moment moment point) = 0
+places_at (seats.Large large root) = most_nodes_of large root.weight
 
 abbrev pub nodes_at : QuestionSeat → ℕ
 nodes_at (seats.Query seat) = most_nodes seat.query seat.running
 nodes_at (seats.Lookup lookup root) = 0
 nodes_at (seats.Moment moment point) = 0
+nodes_at (seats.Large large root) = most_nodes_of large root.weight
 
 -- there is room for the nodes of each of these
 abbrev pub LendsEnough : Option Space → List QuestionSeat → Type 0
@@ -97,6 +109,8 @@ refusal_at weight n (seats.Query seat) =
 refusal_at weight n (seats.Lookup lookup root) = None
 refusal_at weight n (seats.Moment moment point) =
     if is_too_high (weight moment.side) moment.degree then Some (statuses.TooHigh n) else None
+refusal_at weight n (seats.Large large root) =
+    if is_wide large.at_least (pos root.weight) then Some (statuses.TooWide n) else None
 
 -- ---- all of them
 
@@ -131,6 +145,7 @@ stated entries (givens.Pairs query) = (questions.Query query, to_query (pairs en
 stated entries (givens.Lookup lookup answer) =
     (questions.Lookup lookup, to_lookup (looked_of answer))
 stated entries (givens.Moment moment value) = (questions.Moment moment, to_moment value)
+stated entries (givens.Large large) = (questions.Large large, to_large entries)
 
 pub record States (s : QuestionSitting) (given : QuestionGiven) (question : Question)
     (answer : Answered) : Type 0 where

@@ -1,5 +1,6 @@
 -- Which records of its store a helper hears, and what it is told of them before.
-use Rattle.std.specs.Prelude.{◌≡◌, ℕ, ◌<◌, ◌≤◌, List, [], ◌∷◌, ◌++◌, length, take}
+use Rattle.std.specs.Prelude.{◌≡◌, ℕ, ◌<◌, ◌≤◌, Bool, true, false, List, [], ◌∷◌, ◌++◌, length}
+use Rattle.std.specs.Prelude.{map, take}
 use Rattle.std.specs.Prelude.{IfSome, Option, Some, None, Result, Ok, Err}
 use Rattle.sip_stream.specs.declared.fault.StreamFault.{StreamFault}
 use Rattle.sip_stream.specs.declared.fault.StreamFault.TheVariants as faults
@@ -8,7 +9,10 @@ use Rattle.sip_stream.specs.Records.{records, records_from}
 use Rattle.sip_vector.specs.declared.update.Side.TheVariants.{First, Second}
 use Rattle.sip_vector.specs.declared.update.Update.{Update}
 use Rattle.sip_vector.specs.Fingerprints.{fingerprint}
+use Rattle.sip_vector.specs.Splits.{absolute}
 use Rattle.sip_vector.specs.Streams.{IsLegal, weight}
+use Rattle.sip_vector.specs.Tallies.{tally}
+use Rattle.sip_vector.specs.declared.tally.Tally.{Tally}
 use Rattle.sip_wire.specs.declared.kind.Place.TheVariants as places
 use Rattle.sip_wire.specs.declared.message.Held.{Held}
 use Rattle.sip_wire.specs.declared.message.Message.TheVariants as messages
@@ -54,6 +58,15 @@ pub record IsFront (depth : ℕ) (form : Form) (bytes : List ℕ) (left : Option
   pub unread : left ≡ Some rest
   pub behind : records depth form bytes ≡ records_from depth form us rest
 
+-- what is held of records of which this is told
+abbrev pub held_by : Tally → Held
+held_by t = record {
+  records = t.count;
+  first = t.first;
+  second = t.second;
+  fingerprint = t.fingerprint;
+}
+
 -- what they come to
 abbrev pub held_of : List Update → Held
 held_of us = record {
@@ -85,13 +98,18 @@ pub record Hears (r : Recalls) (form : Form) (store left : Option (List ℕ))
   pub few : length us ≤ r.count
   pub front : IfSome store (λ bytes. IsFront r.depth form bytes left r.count us)
 
--- the front that is asked for was heard, and its end, and this is what it comes to
-abbrev pub HearsStore : Recalls → Form → Option (List ℕ) → Option (List ℕ) → HelperState
-    → Result Held StoreStatus → Type 0
-HearsStore r form store left next (Ok held) =
+-- what is heard of records: they, or the sizes of their deltas
+abbrev pub heard_of : Bool → List Update → List Update
+heard_of false us = us
+heard_of true us = map absolute us
+
+-- the front that is asked for was heard, or its sizes, and its end, and this is told of it
+abbrev pub HearsRecords : Bool → Recalls → Form → Option (List ℕ) → Option (List ℕ) → HelperState
+    → Result Tally StoreStatus → Type 0
+HearsRecords sizes r form store left next (Ok told) =
     (us : List Update) × Hears r form store left us
-    × (next ≡ stream_heard r.number r.depth (us ∷ [])) × (held ≡ held_of us)
-HearsStore r form store left next (Err status) = IsUnheard r form store status
+    × (next ≡ stream_heard r.number r.depth (heard_of sizes us ∷ [])) × (told ≡ tally us)
+HearsRecords sizes r form store left next (Err status) = IsUnheard r form store status
 
 -- the status of a talk whose store was read no further
 abbrev pub status_of_fault : StreamFault → StoreStatus

@@ -3,14 +3,19 @@
 -- Behind the opening one message may come but a Bye: it says how many records are to be heard. The
 -- first so many records of the store are heard, or all where it has fewer, as updates and then the
 -- end of the stream, and what they come to goes out. From there on the talk is one of questions.
--- The store is read behind that message, and where it can't be, nothing more is said.
+-- The store is read behind that message, and where it can't be, nothing more is said. Where large
+-- entries are asked for, it is read once more for the sizes of the deltas: they are those of
+-- records that come to the same, or where no delta is below 0 of the first ones, or none are known.
 use Rattle.std.specs.Prelude.{◌≡◌, ◌⊎◌, ℕ, ◌<◌, Bool, true, false, is_none, List, [], ◌∷◌, ◌++◌}
-use Rattle.std.specs.Prelude.{length, take, Option, Some, None}
+use Rattle.std.specs.Prelude.{IfSome, length, map, take, Option, Some, None, Result, Ok, Err}
 use Rattle.sip_ports.specs.declared.port.PortStop.{PortStop}
 use Rattle.sip_ports.specs.declared.port.TalkEvent.{TalkEvent}
 use Rattle.sip_ports.specs.Ports.{GoesOn, ins, outs}
 use Rattle.sip_stream.specs.declared.form.Form.{Form}
+use Rattle.sip_vector.specs.Splits.{absolute}
+use Rattle.sip_vector.specs.declared.tally.Tally.{Tally}
 use Rattle.sip_vector.specs.declared.update.Update.{Update}
+use Rattle.sip_vector.specs.Tallies.{negatives, tally}
 use Rattle.sip_wire.specs.declared.kind.Place.TheVariants as places
 use Rattle.sip_wire.specs.declared.message.Message.{Message}
 use Rattle.sip_wire.specs.declared.message.Message.TheVariants as messages
@@ -21,13 +26,13 @@ use Rattle.sip_helper.specs.OneTurn.{StopsTurn}
 use Rattle.sip_helper.specs.Rules.{EndsAs, ServesOn, TurnRules}
 use Rattle.sip_helper.specs.Statuses.{status_of_stop}
 use Rattle.sip_helper.specs.Streams.{stream_heard}
-use Rattle.sip_helper.specs.Turns.{version_opened}
+use Rattle.sip_helper.specs.Turns.{HelperState, version_opened}
 use Rattle.sip_questions.specs.declared.recalling.Recalling.{Recalling}
 use Rattle.sip_questions.specs.declared.store_status.StoreStatus.{StoreStatus}
 use Rattle.sip_questions.specs.declared.store_status.StoreStatus.TheVariants as statuses
-use Rattle.sip_questions.specs.Serving.{QuestionHelper, fresh_questions, question_rules}
+use Rattle.sip_questions.specs.Serving.{QuestionHelper, fresh_questions, question_rules, step}
 use Rattle.sip_questions.specs.StoreFronts.{Hears, IsOpening, IsUnheard, Recalls, asked_for}
-use Rattle.sip_questions.specs.StoreFronts.{held_frame, opening}
+use Rattle.sip_questions.specs.StoreFronts.{held_frame, held_of, opening}
 
 -- ---- the message behind the opening
 
@@ -59,11 +64,30 @@ recall_rules = record {
   is_done = λ s. s.done;
 }
 
--- The helper that has heard records at a depth, and their end: it has their vectors. In how many
--- pieces they were heard is not seen of it.
-abbrev pub store_heard : ℕ → ℕ → List Update → QuestionHelper
-store_heard number depth us =
-    record fresh_questions { helper = stream_heard number depth (us ∷ []) }
+-- what has heard the sizes of records, where they were read again
+abbrev pub sizes_heard : ℕ → ℕ → Option (List Update) → Option HelperState
+sizes_heard number depth None = None
+sizes_heard number depth (Some us) = Some (stream_heard number depth (map absolute us ∷ []))
+
+-- The helper that has heard records at a depth, and their end: it has their vectors, and those of
+-- the sizes of what was read again. In how many pieces they were heard is not seen of it.
+abbrev pub store_heard : ℕ → ℕ → List Update → Option (List Update) → QuestionHelper
+store_heard number depth us again = record fresh_questions {
+  helper = stream_heard number depth (us ∷ []);
+  again = sizes_heard number depth again;
+}
+
+-- behind the opening, whether memory was refused or not
+abbrev pub questions_opened : Recalls → Bool → QuestionHelper
+questions_opened r refused = step fresh_questions refused (messages.Open r.number r.depth)
+
+-- the front that is asked for was heard, and its end, and this is told of it
+abbrev pub HearsStore : Recalls → Form → Option (List ℕ) → Option (List ℕ) → QuestionHelper
+    → Result Tally StoreStatus → Type 0
+HearsStore r form store left next (Ok told) =
+    (us : List Update) × Hears r form store left us
+    × (next ≡ store_heard r.number r.depth us None) × (told ≡ tally us)
+HearsStore r form store left next (Err status) = IsUnheard r form store status
 
 -- ---- the talk
 
@@ -86,10 +110,32 @@ pub record StopsAtRecall (old new : Option (List TalkEvent)) (how : HelpStatus) 
   pub ends : EndsAs recall_rules (awaiting (version_opened number))
       (length (opening number depth)) rest how
 
--- Over a store that has these bytes, and then those that are left, and a link that told `old` and
--- tells `new`.
-module _ (form : Form) (store left : Option (List ℕ)) (old new : Option (List TalkEvent))
-    (status : StoreStatus) where
+-- no delta is below 0
+abbrev pub IsUnsigned : List Update → Type 0
+IsUnsigned us = negatives us ≡ record { first = false; second = false }
+
+-- A store was read again: the records come to the same as those that were heard first. Large
+-- entries are weighed by the sizes of what was read, or of what was heard where no delta is below
+-- 0.
+pub record IsReread (r : Recalls) (form : Form) (again unread : Option (List ℕ))
+    (us more : List Update) : Type 0 where
+  pub read : List Update
+  pub hears : Hears r form again unread read
+  pub same : held_of read ≡ held_of us
+  pub weighs : (more ≡ read) ⊎ ((more ≡ us) × IsUnsigned us)
+
+-- What is asked is answered by records, of which so many bytes were received before.
+pub record AnswersBy (r : Recalls) (us : List Update) (form : Form) (again unread : Option (List ℕ))
+    (old new : Option (List TalkEvent)) (how : HelpStatus) : Type 0 where
+  pub more : Option (List Update)
+  pub reread : IfSome more (IsReread r form again unread us)
+  pub serves : ServesOn question_rules (store_heard r.number r.depth us more)
+      (length (asked_for r)) old new how
+
+-- Over a store that has these bytes, and then those that are left; the same as it is read again;
+-- and a link that told `old` and tells `new`.
+module _ (form : Form) (store left again left_again : Option (List ℕ))
+    (old new : Option (List TalkEvent)) (status : StoreStatus) where
   -- it ends with the first or the second message, and nothing of the store was read
   pub record EndsUnasked : Type 0 where
     pub how : HelpStatus
@@ -123,8 +169,7 @@ module _ (form : Form) (store left : Option (List ℕ)) (old new : Option (List 
     pub talk : GoesOn old between (ins (asked_for recalls) ++ outs (held_frame recalls us))
     pub how : HelpStatus
     pub same : status ≡ status_of how
-    pub serves : ServesOn question_rules (store_heard recalls.number recalls.depth us)
-        (length (asked_for recalls)) between new how
+    pub serves : AnswersBy recalls us form again left_again between new how
 
   -- Where it ended, and by which status.
   abbrev pub ServesStore : Type 0

@@ -13,6 +13,7 @@ ghost use Rattle.sip_questions.specs.Sittings.{refusal_at};
 
 use crate::asking::ask_question;
 use crate::seat::QuestionSeat;
+use sip_above::Large;
 use sip_heavy::HeavySpace;
 use sip_lookup::{LookAnswer, Lookup, write_look};
 use sip_moments::{Moment, write_moment};
@@ -34,6 +35,8 @@ pub enum QuestionGiven {
     Lookup { lookup: Lookup, answer: LookAnswer },
     /// A moment.
     Moment { moment: Moment, value: i64 },
+    /// Large entries: the pairs that the asker shows.
+    Large { large: Large },
 }
 
 /// The questions of a run after the stream was sent, or after it was watched. All memory is taken
@@ -117,7 +120,8 @@ impl QuestionAsker {
     ///
     /// Takes a frame of 8,709 bytes, and 16 bytes for each entry that the widest answer may have:
     /// 65,536 where a lookup is asked, one for each item of a sub-vector, up to as many, and
-    /// 2 * floor(n / T) where heavy hitters are asked for, which takes 64 bytes more for each.
+    /// 2 * floor(n / T) where heavy hitters or large entries are asked for, which takes 64 bytes
+    /// more for each.
     /// After that no call takes memory.
     ///
     /// # Errors
@@ -224,6 +228,7 @@ impl Asker for QuestionAsker {
             QuestionGiven::Pairs { query } => write_pairs(report, query, &self.entries),
             QuestionGiven::Lookup { lookup, answer } => write_look(report, *lookup, *answer),
             QuestionGiven::Moment { moment, value } => write_moment(report, *moment, *value),
+            QuestionGiven::Large { large } => write_pairs(report, &large.query(), &self.entries),
         }
     }
 

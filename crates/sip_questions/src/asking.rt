@@ -14,6 +14,7 @@ ghost use Rattle.sip_questions.specs.Sittings.{query_given, question_at, stated}
 
 use crate::asker::QuestionGiven;
 use crate::seat::QuestionSeat;
+use sip_above::ask_large;
 use sip_heavy::HeavySpace;
 use sip_lookup::ask_look;
 use sip_moments::ask_moment;
@@ -89,6 +90,13 @@ pub fn ask_question<L: Link, C: Sink>(
             let extension = point.value();
             match ask_moment(version, moment, &point.seat, extension, frame, link, keep) {
                 Ok(value) => Ok(QuestionGiven::Moment { moment, value }),
+                Err(why) => Err(why),
+            }
+        }
+        QuestionSeat::Large(large, root) => {
+            let large = *large;
+            match ask_large(version, large, root, link, keep, frame, entries, space) {
+                Ok(()) => Ok(QuestionGiven::Large { large }),
                 Err(why) => Err(why),
             }
         }

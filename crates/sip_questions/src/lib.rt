@@ -1,8 +1,8 @@
-//! Questions of every kind in one talk: queries, lookups and moments, in any order.
+//! Questions of every kind in one talk: queries, lookups, moments and large entries, in any order.
 //!
 //! A question is asked as its kind is in a talk of that kind alone, at a block of challenges of its
 //! own. So nothing is defined here once more: the manner of questions goes by the manners of the
-//! three kinds, and the turns of a helper by those of three helpers.
+//! kinds, and the turns of a helper by those of their helpers.
 //!
 //! [`QuestionAsker`] asks the questions of a run over a link to where its stream is kept, each at a
 //! [`QuestionSeat`]: the running numbers of the stream that its kind wants, which
@@ -14,7 +14,8 @@
 //!
 //! [`serve_store`] is a helper's end over records that it has of its own: it is told how many of
 //! them to hear, hears so many or all, says what they come to, and answers from there on
-//! (`ServesStore`). Whoever has no link takes its parts one by one: the turn of a [`Recalling`], and
+//! (`ServesStore`). Where large entries are asked for, it reads them once more, for the sizes of
+//! their deltas. Whoever has no link takes its parts one by one: the turn of a [`Recalling`], and
 //! then [`hear_store`] and [`say_held`].
 //!
 //! The command `serve` is [`serve_store`] over a file and a link.
@@ -44,9 +45,11 @@ mod question;
 mod recalling;
 mod seat;
 mod serving;
+mod sizes;
 mod store;
 mod store_hearing;
 mod store_status;
+mod weighing;
 
 pub use asker::{QuestionAsker, QuestionGiven};
 pub use asking::ask_question;
@@ -55,5 +58,4 @@ pub use recalling::Recalling;
 pub use seat::QuestionSeat;
 pub use serving::{QuestionCore, serve_questions};
 pub use store::{say_held, serve_store};
-pub use store_hearing::hear_store;
 pub use store_status::StoreStatus;

@@ -4,6 +4,7 @@ ghost use Rattle.std.specs.Prelude.{◌≡◌, ◌↔◌, IsTrue};
 ghost use Rattle.sip_questions.specs.Promises.{CanPose};
 ghost use Rattle.sip_questions.specs.Sittings.{query_like};
 
+use sip_above::Large;
 use sip_lookup::Lookup;
 use sip_moments::{LEAST_DEGREE, Moment};
 use sip_vector::{Depth, Query};
@@ -18,6 +19,8 @@ pub enum Question {
     Lookup(Lookup),
     /// The sum of a power, 3 to 8, of the numbers of a side.
     Moment(Moment),
+    /// The large entries of a side, also where others are below 0.
+    Large(Large),
 }
 
 /// The lookup of item 0.
@@ -48,12 +51,17 @@ impl Question {
             Question::Moment(moment) => {
                 LEAST_DEGREE <= moment.degree && moment.degree <= MOST_DEGREE
             }
+            Question::Large(large) => {
+                let query = large.query();
+                query.fits(depth) && depth.get() <= version.deepest() && version.speaks(&query)
+            }
         }
     }
 
-    /// The query whose running numbers serve the question too: that of an entry for a lookup, and
-    /// of the second moment of its side for a moment. So [`Running::begin`](sip_verifier::Running)
-    /// of it begins what is kept of a stream for the question.
+    /// The query whose running numbers serve the question too: that of an entry for a lookup, of
+    /// the second moment of its side for a moment, and its own for large entries. So
+    /// [`Running::begin`](sip_verifier::Running) of it begins what is kept of a stream for the
+    /// question.
     pub fn query_like(&self) -> Query
         ensures { result ≡ query_like self.now }
     {
@@ -64,6 +72,7 @@ impl Question {
                 Query::Sub { lo: item, hi: item }
             }
             Question::Moment(moment) => Query::F2 { side: moment.side },
+            Question::Large(large) => large.query(),
         }
     }
 }

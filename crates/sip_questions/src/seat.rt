@@ -10,12 +10,13 @@ ghost use Rattle.sip_questions.specs.Sittings.{CanAsk, block_at, nodes_at, place
 ghost use Rattle.sip_questions.specs.Sittings.{question_at, refusal_at, running_at};
 
 use crate::question::Question;
+use sip_above::Large;
 use sip_field::M61;
 use sip_lookup::Lookup;
 use sip_mle::Point;
 use sip_moments::{Moment, is_too_high};
 use sip_subvec::MOST_ENTRIES;
-use sip_tree::Root;
+use sip_tree::{Root, SplitRoot};
 use sip_vector::CAP;
 use sip_verifier::{QuerySeat, Running, Status, Weights};
 
@@ -29,6 +30,8 @@ pub enum QuestionSeat {
     Lookup(Lookup, Root<M61, CAP>),
     /// A moment, by the extension of its side.
     Moment(Moment, Point<M61, CAP>),
+    /// Large entries, by the root of their side's split tree.
+    Large(Large, SplitRoot<M61, CAP>),
 }
 
 /// The lookup of item 0 in no levels.
@@ -58,6 +61,7 @@ impl QuestionSeat {
             (Question::Moment(moment), Running::Point(point)) => {
                 QuestionSeat::Moment(moment, point)
             }
+            (Question::Large(large), Running::SplitRoot(root)) => QuestionSeat::Large(large, root),
             _ => unreachable!(),
         }
     }
@@ -71,10 +75,12 @@ impl QuestionSeat {
             QuestionSeat::Query(seat) => seat.most_places(),
             QuestionSeat::Lookup(_, _) => MOST_ENTRIES as usize,
             QuestionSeat::Moment(_, _) => 0,
+            QuestionSeat::Large(large, root) => large.most_nodes(root.weight()),
         }
     }
 
-    /// How many nodes a level of the replies may have, where the question is for heavy hitters.
+    /// How many nodes a level of the replies may have, where the question is for heavy hitters or
+    /// large entries.
     pub fn nodes(&self) -> usize
         requires { (version : AnyVersion) × (depth : ℕ) × CanAsk version depth self.now }
         ensures { result ≡ nodes_at self.now }
@@ -82,6 +88,7 @@ impl QuestionSeat {
         match self {
             QuestionSeat::Query(seat) => seat.most_nodes(),
             QuestionSeat::Lookup(_, _) | QuestionSeat::Moment(_, _) => 0,
+            QuestionSeat::Large(large, root) => large.most_nodes(root.weight()),
         }
     }
 
@@ -98,6 +105,9 @@ impl QuestionSeat {
                     return Some(Status::TooHigh { query: number });
                 }
                 None
+            }
+            QuestionSeat::Large(large, root) if large.is_wide(root.weight()) => {
+                Some(Status::TooWide { query: number })
             }
             _ => None,
         }

@@ -4,6 +4,7 @@ use Rattle.std.proofs.lemmas.List.{take_more}
 use Rattle.sip_questions.specs.declared.question.Question.{Question}
 use Rattle.sip_questions.specs.declared.question.Question.TheVariants as questions
 use Rattle.sip_questions.specs.Questions.{queries_among}
+use Rattle.sip_above.specs.Questions.{query_of}
 
 -- they are no more than the questions
 pub among_few : (asked : List Question) → length (queries_among asked) ≤ length asked
@@ -11,6 +12,7 @@ among_few [] = omega arith
 among_few (questions.Query q ∷ more) = omega (arith, among_few more)
 among_few (questions.Lookup l ∷ more) = omega (arith, among_few more)
 among_few (questions.Moment m ∷ more) = omega (arith, among_few more)
+among_few (questions.Large l ∷ more) = omega (arith, among_few more)
 
 among_next : (asked : List Question) (i : ℕ) (d : Question) → i < length asked → queries_among (take (suc i) asked) ≡ queries_among (take i asked) ++ queries_among (get_or asked i d ∷ [])
 among_next [] i d lt = absurd (omega (arith, lt))
@@ -18,6 +20,7 @@ among_next (q ∷ more) zero d lt = refl
 among_next (questions.Query q ∷ more) (suc i) d lt = ap (λ l. q ∷ l) (among_next more i d (omega (arith, lt)))
 among_next (questions.Lookup l ∷ more) (suc i) d lt = among_next more i d (omega (arith, lt))
 among_next (questions.Moment m ∷ more) (suc i) d lt = among_next more i d (omega (arith, lt))
+among_next (questions.Large l ∷ more) (suc i) d lt = ap (λ qs. query_of l ∷ qs) (among_next more i d (omega (arith, lt)))
 
 -- one more question
 pub among_more : (asked : List Question) (i : ℕ) (d : Question) → i < length asked → queries_among (take (i + 1) asked) ≡ queries_among (take i asked) ++ queries_among (get_or asked i d ∷ [])

@@ -14,8 +14,8 @@ use Rattle.sip_sums.proofs.HonestSums.{all_front}
 use Rattle.sip_wire.specs.declared.version.Version.{Version}
 use Rattle.sip_verifier.specs.QuerySeats.{HasRoom, RunningNumbers, RunsOn, Seated, aug_root_is, concerns, is_heavy_of}
 use Rattle.sip_verifier.specs.Running.{block_of, numbers_of}
-use Rattle.sip_verifier.proofs.Seating.{all_own, of_other, of_own, same_runs, vector_split}
-use Rattle.sip_verifier.proofs.SeatTotals.{light_after, light_sum, seat_total, size}
+use Rattle.sip_verifier.proofs.Seating.{all_own, of_other, of_own, same_runs, split_same}
+use Rattle.sip_verifier.proofs.SeatTotals.{light_after, light_sum, seat_total, size, weight_after_is, weight_kept}
 use Rattle.sip_questions.specs.Sittings.{query_like}
 use Rattle.sip_runs.specs.declared.seat.RunSeat.{RunSeat}
 use Rattle.sip_runs.specs.Seats.{IsSeated, blocks_of, questions_of}
@@ -40,15 +40,21 @@ light_side depth stream Second legal = legal.second
 -- there is room for what a legal stream goes on with, where all of it is of one side
 pub has_room : (depth : ℕ) (stream updates : List Update) (query : Query) (block : List ℕ) (running : RunningNumbers) (side : Side) → RunsOn depth stream query block running
     → IsTrue (concerns query side) → All (λ u. u.side ≡ side) updates → IsLegal depth (stream ++ updates) → HasRoom running updates
-has_room depth stream updates query block running side runs own all legal = λ hash sum is n few.
-    let these : RunsOn depth stream query block (aug_root_is hash sum) = subst (RunsOn depth stream query block) is runs in
+has_room depth stream updates query block running side runs own all legal =
     let below = all_front (λ (u : Update). u.item < 2 ^ depth) stream updates legal.items in
-    let seat : Seated = record { query = query; block = block; running = aug_root_is hash sum } in
-    let kept = seat_total depth stream seat side hash sum below these (heavy_one depth stream query block hash sum side these own) refl in
-    let before : nat_abs sum ≤ weight stream side = subst (λ z. nat_abs z ≤ weight stream side) (sym kept) (light_sum (of_side stream side)) in
     let mine : of_side updates side ≡ updates = of_own updates side all in
-    let after = light_after updates sum (weight stream side) n before in
-    omega (arith, after, ap (sum_by size) mine, weight-append stream updates side, light_side depth (stream ++ updates) side legal)
+    let most = light_side depth (stream ++ updates) side legal in
+    record {
+      sums = λ hash sum is n few.
+          let these : RunsOn depth stream query block (aug_root_is hash sum) = subst (RunsOn depth stream query block) is runs in
+          let seat : Seated = record { query = query; block = block; running = aug_root_is hash sum } in
+          let kept = seat_total depth stream seat side hash sum below these (heavy_one depth stream query block hash sum side these own) refl in
+          let before : nat_abs sum ≤ weight stream side = subst (λ z. nat_abs z ≤ weight stream side) (sym kept) (light_sum (of_side stream side)) in
+          omega (arith, light_after updates sum (weight stream side) n before, ap (sum_by size) mine, weight-append stream updates side, most);
+      weights = λ hash w is.
+          let kept = weight_kept depth stream query block side hash w below (subst (RunsOn depth stream query block) is runs) own in
+          omega (arith, weight_after_is updates w, kept, ap (sum_by size) mine, weight-append stream updates side, most);
+    }
 
 -- ---- one side and then the other
 
@@ -108,7 +114,7 @@ same_seat version depth stream updates s is = record {
   can = is.can;
   levels = is.levels;
   kept = is.kept;
-  runs = record { runs = same_runs depth _ (stream ++ updates) (block_of s.running) (query_like s.question) (numbers_of s.running) (vector_split depth stream updates) is.runs.runs };
+  runs = record { runs = same_runs depth _ (stream ++ updates) (block_of s.running) (query_like s.question) (numbers_of s.running) (split_same depth stream updates) is.runs.runs };
 }
 
 pub same_seats : (version : Version) (depth : ℕ) (stream updates : List Update) (seats : List RunSeat)

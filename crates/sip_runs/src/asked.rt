@@ -12,7 +12,7 @@ use sip_questions::Question;
 use sip_vector::{Depth, Query};
 use sip_wire::{MOST_QUERIES, Version};
 
-// The queries among these questions, in order.
+// The queries among these questions, and those that ask for large entries, in order.
 fn queries_among(questions: &[Question]) -> ArrayVec<Query, MOST_QUERIES>
     requires { length questions.now ≤ most_queries }
     ensures { result.items ≡ queries_among questions.now }
@@ -23,6 +23,7 @@ fn queries_among(questions: &[Question]) -> ArrayVec<Query, MOST_QUERIES>
             Question::Query(query) => queries.push(*query),
             Question::Lookup(_) => {}
             Question::Moment(_) => {}
+            Question::Large(large) => queries.push(large.query()),
         }
     }
     queries

@@ -13,8 +13,9 @@ ghost use Rattle.sip_verifier.specs.Weights.{weight_in};
 ghost use Rattle.sip_verifier.specs.Widths.{is_wide_seat};
 ghost use Rattle.sip_questions.specs.Promises.{CanPose};
 ghost use Rattle.sip_questions.specs.Sittings.{query_like};
-ghost use Rattle.sip_runs.specs.Seats.{IsSeated, refusal_at};
+ghost use Rattle.sip_runs.specs.Seats.{IsSeated, is_too_many, refusal_at};
 
+use sip_above::Large;
 use sip_field::{M61, Seat};
 use sip_moments::is_too_high;
 use sip_questions::Question;
@@ -35,6 +36,17 @@ fn is_too_wide(query: &Query, running: &Running) -> bool
             let total = root.total();
             is_wide(total, share_of(total, *num, *den))
         }
+        _ => false,
+    }
+}
+
+// Whether a side may have more large entries than a reply has room for.
+fn is_too_many(large: &Large, running: &Running) -> bool
+    requires { 1 ≤ large.now.at_least }
+    ensures { result ≡ is_too_many large.now (numbers_of running.now) }
+{
+    match running {
+        Running::SplitRoot(root) => large.is_wide(root.weight()),
         _ => false,
     }
 }
@@ -125,6 +137,12 @@ impl RunSeat {
             Question::Moment(moment) => {
                 if is_too_high(weights.of(moment.side), moment.degree) {
                     return Some(Status::TooHigh { query: number });
+                }
+                None
+            }
+            Question::Large(large) => {
+                if is_too_many(large, &self.running) {
+                    return Some(Status::TooWide { query: number });
                 }
                 None
             }

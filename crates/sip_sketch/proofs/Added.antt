@@ -8,34 +8,37 @@ use Rattle.sip_field.specs.Moduli.{m61_modulus}
 use Rattle.sip_mle.specs.StandsFor.{PointStandsFor}
 use Rattle.sip_mle.proofs.Weighing.{points_stand}
 use Rattle.sip_tree.specs.StandsFor.{AugRootStandsFor, RootStandsFor}
+use Rattle.sip_tree.proofs.Splitting.{split_root_joins, split_roots_stand}
 use Rattle.sip_tree.proofs.StandsLemmas.{augroots_stand, roots_stand}
-use Rattle.sip_vector.specs.Streams.{most_weight}
+use Rattle.sip_vector.specs.Streams.{most_weight, weight}
 use Rattle.sip_vector.specs.Tallies.{joined}
 use Rattle.sip_vector.specs.declared.tally.Tally.{Tally}
 use Rattle.sip_vector.specs.declared.update.Side.{Side}
 use Rattle.sip_vector.specs.declared.update.Side.TheVariants.{First, Second}
 use Rattle.sip_vector.specs.declared.update.Update.{Update}
 use Rattle.sip_vector.proofs.Lines.{vector_joined}
+use Rattle.sip_vector.proofs.Sides.{weight-append}
 use Rattle.sip_verifier.specs.QuerySeats.{RunsOn}
 use Rattle.sip_verifier.specs.Running.{FitTogether}
 use Rattle.sip_sketch.specs.declared.cursor.Size.TheVariants.{Long}
 use Rattle.sip_sketch.specs.declared.kind.SeatKind.{SeatKind}
-use Rattle.sip_sketch.specs.declared.kind.SeatKind.TheVariants.{Entries, Sums, Products, Heavy}
+use Rattle.sip_sketch.specs.declared.kind.SeatKind.TheVariants.{Above, Entries, Heavy, Products, Sums}
 use Rattle.sip_sketch.specs.Fields.{Field, IsValue}
 use Rattle.sip_sketch.specs.Joining.{added_seat, added_seats, added_second}
-use Rattle.sip_sketch.specs.Seats.{numbers_kept, query_of}
+use Rattle.sip_sketch.specs.Seats.{beside, numbers_kept, query_of, side_of}
 use Rattle.sip_sketch.specs.Sketches.{SeatValues, element, total_field}
 use Rattle.sip_sketch.specs.Standing.{SeatStands}
 use Rattle.sip_sketch.specs.inside.Adding.{AddUp}
-use Rattle.sip_sketch.proofs.Kept.{IsTold, heavy_field, heavy_more, negative_told, total_within, weight_told}
+use Rattle.sip_sketch.proofs.Kept.{IsTold, bare_told, heavy_field, heavy_more, negative_told, total_within, weight_told}
 use Rattle.sip_sketch.proofs.Whole.{SeatFits, ranged_from, ranged_value}
 
 -- ---- the numbers of both streams
 
 module _ (depth : ℕ) (stream more : List Update) (block block' : List ℕ) (a b a' b' : ℕ) (same : block' ≡ block) where
   pub kinds_join : (kind : SeatKind) → FitTogether (numbers_kept kind a b) (numbers_kept kind a' b')
-      → RunsOn depth stream (query_of kind) block (numbers_kept kind a b) → RunsOn depth more (query_of kind) block' (numbers_kept kind a' b')
-      → RunsOn depth (stream ++ more) (query_of kind) block (numbers_kept kind ((a + a') % m61_modulus) (added_second kind b b'))
+      → RunsOn depth stream (query_of kind) block (beside (weight stream (side_of kind)) (numbers_kept kind a b))
+      → RunsOn depth more (query_of kind) block' (beside (weight more (side_of kind)) (numbers_kept kind a' b'))
+      → RunsOn depth (stream ++ more) (query_of kind) block (beside (weight (stream ++ more) (side_of kind)) (numbers_kept kind ((a + a') % m61_modulus) (added_second kind b b')))
   kinds_join Entries fit own other =
       let some : 0 < m61_modulus = omega arith in
       subst (RootStandsFor m61_modulus block _) (sym (vector_joined depth stream more First)) (roots_stand m61_modulus block block' some same a a' _ _ _ refl own other)
@@ -51,6 +54,10 @@ module _ (depth : ℕ) (stream more : List Update) (block block' : List ℕ) (a 
       let some : 0 < m61_modulus = omega arith in
       subst (AugRootStandsFor m61_modulus block _ _) (sym (vector_joined depth stream more side))
       (augroots_stand m61_modulus block block' some same a a' _ _ _ (pos (b + b' - most_weight) -ℤ pos most_weight) _ _ refl (omega (arith, ints, fit)) own other)
+  kinds_join (Above side) fit own other =
+      let some : 0 < m61_modulus = omega arith in
+      split_root_joins m61_modulus block _ _ depth stream more side
+      (split_roots_stand m61_modulus block block' a a' _ _ _ _ _ _ _ _ some same refl (weight-append stream more side) own other)
 
 -- ---- the values of a file
 
@@ -68,6 +75,10 @@ module _ (t u : Tally) (first_side : t.first + u.first ≤ most_weight) (second_
       let one = total_within (weight_told t side) (negative_told t side) x (subst (λ (f : Field). IsValue f x) (heavy_field t side false) own) in
       let two = total_within (weight_told u side) (negative_told u side) y (subst (λ (f : Field). IsValue f y) (heavy_field u side false) other) in
       omega (arith, ints, one.0, one.1, two.0, two.1, both_light side)
+  told_fit (Above side) a x a' y own other =
+      let one = bare_told t side x own in
+      let two = bare_told u side y other in
+      omega (arith, one, two)
 
   last_none : (a b : Bool) → (a || b) ≡ false → b ≡ false
   last_none true b none = absurd cc
@@ -90,12 +101,16 @@ module _ (t u : Tally) (first_side : t.first + u.first ≤ most_weight) (second_
       heavy_more t u side false x (x + y - most_weight) own (omega (arith, one.1, two.1, both_light side)) (omega (arith, two.1)) (omega (arith, two.0))
       (λ none. (let shut = subst (λ o. IsValue (total_field v o) y) (last_none (negative_told t side) (negative_told u side) none) field in
       let whole = (ranged_from Long (most_weight + v) (most_weight + v) y shut).0 in omega (arith, whole, two.1)))
+  told_added (Above First) x y own other = ranged_value Long 0 0 0 (omega arith) (omega arith) (omega arith)
+  told_added (Above Second) x y own other = ranged_value Long 0 0 0 (omega arith) (omega arith) (omega arith)
 
   told_kept : (kind : SeatKind) (x : ℕ) → IsTold t kind true x → IsTold (joined t u) kind true x
   told_kept Entries x own = own
   told_kept (Sums First) x own = own
   told_kept (Sums Second) x own = own
   told_kept Products x own = own
+  told_kept (Above First) x own = own
+  told_kept (Above Second) x own = own
   told_kept (Heavy side) x own = heavy_more t u side true x x own (subst (λ (f : Field). IsValue f x) (heavy_field t side true) own).1 (omega arith) (omega arith) (λ none. absurd cc)
 
   told_either : (kind : SeatKind) (used : Bool) (x y : ℕ) → IsTold t kind used x → IsTold u kind false y → IsTold (joined t u) kind used (cond used x (added_second kind x y))
@@ -135,10 +150,10 @@ pub added_stands : (depth : ℕ) (stream more : List Update) (s part : SeatValue
     → SeatStands depth stream s → SeatStands depth more part → SeatStands depth (stream ++ more) (added_seat s part)
 added_stands depth stream more s part fits unused own other =
     let fit = subst (λ k. FitTogether (numbers_kept s.kind s.first s.second) (numbers_kept k part.first part.second)) fits.kind (fits.total unused) in
-    let also = subst (λ k. RunsOn depth more (query_of k) part.block (numbers_kept k part.first part.second)) fits.kind other in
+    let also = subst (λ k. RunsOn depth more (query_of k) part.block (beside (weight more (side_of k)) (numbers_kept k part.first part.second))) fits.kind other in
     let joins = kinds_join depth stream more s.block part.block s.first s.second part.first part.second fits.block s.kind fit own also in
     subst (λ b. RunsOn depth (stream ++ more) (query_of s.kind) s.block
-    (numbers_kept s.kind (cond b s.first ((s.first + part.first) % m61_modulus)) (cond b s.second (added_second s.kind s.second part.second)))) (sym unused) joins
+    (beside (weight (stream ++ more) (side_of s.kind)) (numbers_kept s.kind (cond b s.first ((s.first + part.first) % m61_modulus)) (cond b s.second (added_second s.kind s.second part.second))))) (sym unused) joins
 
 -- ---- seats, one after another
 

@@ -5,7 +5,7 @@ use Rattle.std.proofs.lemmas.List.{take_at, drop_at}
 use Rattle.sip_vector.specs.declared.tally.Negatives.{Negatives}
 use Rattle.sip_vector.specs.declared.update.Side.TheVariants.{First, Second}
 use Rattle.sip_sketch.specs.declared.kind.SeatKind.{SeatKind}
-use Rattle.sip_sketch.specs.declared.kind.SeatKind.TheVariants.{Entries, Sums, Products, Heavy}
+use Rattle.sip_sketch.specs.declared.kind.SeatKind.TheVariants.{Above, Entries, Heavy, Products, Sums}
 use Rattle.sip_sketch.specs.declared.fault.SketchFault.{SketchFault}
 use Rattle.sip_sketch.specs.declared.fault.SketchFault.TheVariants.{Bad, OutOfMemory}
 use Rattle.sip_sketch.specs.Fields.{read}
@@ -22,7 +22,9 @@ kind_of (suc (suc zero)) = Sums First
 kind_of (suc (suc (suc zero))) = Sums Second
 kind_of (suc (suc (suc (suc zero)))) = Products
 kind_of (suc (suc (suc (suc (suc zero))))) = Heavy First
-kind_of (suc (suc (suc (suc (suc (suc n)))))) = Heavy Second
+kind_of (suc (suc (suc (suc (suc (suc zero)))))) = Heavy Second
+kind_of (suc (suc (suc (suc (suc (suc (suc zero))))))) = Above First
+kind_of (suc (suc (suc (suc (suc (suc (suc (suc n)))))))) = Above Second
 
 kind_back : (k : SeatKind) → kind_of (code_of k) ≡ k
 unfolding kind_of
@@ -32,6 +34,8 @@ kind_back (Sums Second) = refl
 kind_back Products = refl
 kind_back (Heavy First) = refl
 kind_back (Heavy Second) = refl
+kind_back (Above First) = refl
+kind_back (Above Second) = refl
 
 use_back : (b : Bool) → nat_eq (from_bool b) 1 ≡ b
 use_back true = refl

@@ -12,7 +12,7 @@ use Rattle.sip_vector.specs.declared.update.Side.TheVariants.{First, Second}
 use Rattle.sip_vector.specs.declared.update.Update.{Update}
 use Rattle.sip_sketch.specs.declared.cursor.Size.TheVariants.{Long}
 use Rattle.sip_sketch.specs.declared.kind.SeatKind.{SeatKind}
-use Rattle.sip_sketch.specs.declared.kind.SeatKind.TheVariants.{Entries, Sums as SumsOf, Products, Heavy}
+use Rattle.sip_sketch.specs.declared.kind.SeatKind.TheVariants.{Above, Entries, Heavy, Products, Sums as SumsOf}
 use Rattle.sip_sketch.specs.declared.sum.Sum.TheInside.{Inside}
 use Rattle.sip_sketch.specs.declared.unlike.Unlike.{Unlike}
 use Rattle.sip_sketch.specs.declared.unlike.Unlike.TheVariants as reasons
@@ -112,6 +112,8 @@ first_told t (Heavy First) first second = subst (λ (f : Field). IsValue f most_
     (ranged_value Long (most_weight - t.first) (most_weight + t.first) most_weight (omega arith) (omega arith) (omega arith))
 first_told t (Heavy Second) first second = subst (λ (f : Field). IsValue f most_weight) (sym (heavy_field t Second true))
     (ranged_value Long (most_weight - t.second) (most_weight + t.second) most_weight (omega arith) (omega arith) (omega arith))
+first_told t (Above First) first second = ranged_value Long 0 0 0 (omega arith) (omega arith) (omega arith)
+first_told t (Above Second) first second = ranged_value Long 0 0 0 (omega arith) (omega arith) (omega arith)
 
 -- a used seat's number stays one where the weights are no less
 pub wider_told : (t u : Tally) (kind : SeatKind) (x : ℕ) → t.first ≤ u.first → t.second ≤ u.second → u.first ≤ most_weight → u.second ≤ most_weight
@@ -130,6 +132,8 @@ wider_told t u (Heavy Second) x first second most most' told =
     let bounds = ranged_from Long (most_weight - t.second) (most_weight + t.second) x own in
     subst (λ (f : Field). IsValue f x) (sym (heavy_field u Second true))
     (ranged_value Long (most_weight - u.second) (most_weight + u.second) x (omega (arith, bounds.0, second)) (omega (arith, bounds.1, second)) own.1)
+wider_told t u (Above First) x first second most most' told = told
+wider_told t u (Above Second) x first second most most' told = told
 
 -- ---- the first part, with the used seats of a sketch
 

@@ -21,23 +21,23 @@ Reads a b field x = (behind : ℕ → Fields) → Passes a b (one field behind) 
 -- ---- a seat
 
 module _ (depth : ℕ) (number : ℕ → ℕ → Field) (behind : Fields) where
-  pub seat_used : {a b c : Cursor} {kind used : ℕ} → Reads a b (byte 1 6) kind → Reads b c (byte 0 1) used
+  pub seat_used : {a b c : Cursor} {kind used : ℕ} → Reads a b (byte 1 8) kind → Reads b c (byte 0 1) used
       → Passes a c (seat_fields depth number behind) (after_used depth number behind kind used) (kind ∷ used ∷ [])
   seat_used {kind = kind} {used = used} p q = passes_on (p (after_kind depth number behind)) (q (after_used depth number behind kind))
 
-  pub seat_block : {a b c d : Cursor} {kind used : ℕ} {block : List ℕ} → Reads a b (byte 1 6) kind → Reads b c (byte 0 1) used
+  pub seat_block : {a b c d : Cursor} {kind used : ℕ} {block : List ℕ} → Reads a b (byte 1 8) kind → Reads b c (byte 0 1) used
       → ((k : Fields) → Passes c d (elements depth k) k block)
       → Passes a d (seat_fields depth number behind) (after_block number behind kind used) (kind ∷ used ∷ block)
   seat_block {kind = kind} {used = used} p q r = passes_on (seat_used p q) (r (after_block number behind kind used))
 
-  pub seat_first : {a b c d e : Cursor} {kind used first : ℕ} {block : List ℕ} → Reads a b (byte 1 6) kind → Reads b c (byte 0 1) used
+  pub seat_first : {a b c d e : Cursor} {kind used first : ℕ} {block : List ℕ} → Reads a b (byte 1 8) kind → Reads b c (byte 0 1) used
       → ((k : Fields) → Passes c d (elements depth k) k block) → Reads d e element first
       → Passes a e (seat_fields depth number behind) (after_first number behind kind used first) (kind ∷ used ∷ (block ++ first ∷ []))
   seat_first {kind = kind} {used = used} p q r s = passes_on (seat_block p q r) (s (after_first number behind kind used))
 
   -- the field of the second number is said in another way
   pub seat_whole : {a b c d e f : Cursor} {kind used first second : ℕ} {block : List ℕ} (field : Field) → field ≡ number kind used
-      → Reads a b (byte 1 6) kind → Reads b c (byte 0 1) used → ((k : Fields) → Passes c d (elements depth k) k block)
+      → Reads a b (byte 1 8) kind → Reads b c (byte 0 1) used → ((k : Fields) → Passes c d (elements depth k) k block)
       → Reads d e element first → Reads e f field second
       → Passes a f (seat_fields depth number behind) behind (kind ∷ used ∷ (block ++ first ∷ second ∷ []))
   seat_whole {a = a} {e = e} {f = f} {kind = kind} {used = used} {first = first} {second = second} {block = block} field same p q r s t =
@@ -46,7 +46,7 @@ module _ (depth : ℕ) (number : ℕ → ℕ → Field) (behind : Fields) where
       (passes_on (seat_first p q r s) last)
 
   pub seat_fails : {a b c d e : Cursor} {kind used first : ℕ} {block : List ℕ} {fault : SketchFault} (field : Field) → field ≡ number kind used
-      → Reads a b (byte 1 6) kind → Reads b c (byte 0 1) used → ((k : Fields) → Passes c d (elements depth k) k block)
+      → Reads a b (byte 1 8) kind → Reads b c (byte 0 1) used → ((k : Fields) → Passes c d (elements depth k) k block)
       → Reads d e element first → ((k : ℕ → Fields) → Faults e (one field k) fault) → Faults a (seat_fields depth number behind) fault
   seat_fails {e = e} {fault = fault} field same p q r s t =
       fault_behind (seat_first p q r s) (subst (λ g. Faults e (one g (λ _. behind)) fault) same (t (λ _. behind)))

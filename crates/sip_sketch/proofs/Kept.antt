@@ -14,15 +14,15 @@ use Rattle.sip_vector.specs.declared.update.Update.{Update}
 use Rattle.sip_verifier.specs.QuerySeats.{HasRoom, aug_root_is, keeps}
 use Rattle.sip_verifier.specs.Running.{numbers_of}
 use Rattle.sip_verifier.specs.declared.running.Running.{Running}
-use Rattle.sip_verifier.specs.declared.running.Running.TheVariants.{Root, Point, Points, AugRoot}
+use Rattle.sip_verifier.specs.declared.running.Running.TheVariants.{Root, Point, Points, AugRoot, SplitRoot}
 use Rattle.sip_sketch.specs.declared.cursor.Size.TheVariants.{Long}
 use Rattle.sip_sketch.specs.declared.kind.SeatKind.{SeatKind}
-use Rattle.sip_sketch.specs.declared.kind.SeatKind.TheVariants.{Entries, Sums, Products, Heavy}
+use Rattle.sip_sketch.specs.declared.kind.SeatKind.TheVariants.{Above, Entries, Heavy, Products, Sums}
 use Rattle.sip_sketch.specs.Fields.{Field, IsValue}
-use Rattle.sip_sketch.specs.Seats.{IsSecond, first_number, numbers_kept, query_of, second_number, side_of}
+use Rattle.sip_sketch.specs.Seats.{IsSecond, IsUnweighed, first_number, numbers_kept, query_of, second_number, side_of}
 use Rattle.sip_sketch.specs.Sketches.{code_of, second_field, second_of, total_field}
 use Rattle.sip_sketch.specs.inside.Raising.{IsTotalAfter}
-use Rattle.sip_verifier.proofs.SeatTotals.{light_after}
+use Rattle.sip_verifier.proofs.SeatTotals.{light_after, weight_after_is}
 use Rattle.sip_sketch.proofs.Totals.{moved, risen, told_back, told_moved, told_risen, told_small, total_more}
 use Rattle.sip_sketch.proofs.Whole.{ranged_from, ranged_value}
 
@@ -33,18 +33,27 @@ kept_back Entries (Root root) kept = refl
 kept_back Entries (Point point) kept = absurd cc
 kept_back Entries (Points points) kept = absurd cc
 kept_back Entries (AugRoot root) kept = absurd cc
+kept_back Entries (SplitRoot root) kept = absurd cc
 kept_back (Sums side) (Root root) kept = absurd cc
 kept_back (Sums side) (Point point) kept = refl
 kept_back (Sums side) (Points points) kept = absurd cc
 kept_back (Sums side) (AugRoot root) kept = absurd cc
+kept_back (Sums side) (SplitRoot root) kept = absurd cc
 kept_back Products (Root root) kept = absurd cc
 kept_back Products (Point point) kept = absurd cc
 kept_back Products (Points points) kept = refl
 kept_back Products (AugRoot root) kept = absurd cc
+kept_back Products (SplitRoot root) kept = absurd cc
 kept_back (Heavy side) (Root root) kept = absurd cc
 kept_back (Heavy side) (Point point) kept = absurd cc
 kept_back (Heavy side) (Points points) kept = absurd cc
+kept_back (Heavy side) (SplitRoot root) kept = absurd cc
 kept_back (Heavy side) (AugRoot root) kept = ap (aug_root_is root.hash) (told_back root.total root.within)
+kept_back (Above side) (Root root) kept = absurd cc
+kept_back (Above side) (Point point) kept = absurd cc
+kept_back (Above side) (Points points) kept = absurd cc
+kept_back (Above side) (AugRoot root) kept = absurd cc
+kept_back (Above side) (SplitRoot root) kept = refl
 
 -- the first is an element
 pub first_below : (r : Running) → first_number (numbers_of r) < m61_modulus
@@ -52,25 +61,35 @@ first_below (Root root) = root.below
 first_below (Point point) = point.below
 first_below (Points points) = points.first.below
 first_below (AugRoot root) = root.below
+first_below (SplitRoot root) = root.below
 
 -- and the second one that its kind may have
-pub is_second : (kind : SeatKind) (r : Running) → IsTrue (keeps (query_of kind) (numbers_of r)) → IsSecond kind (second_number (numbers_of r))
-is_second Entries (Root root) kept = refl
-is_second Entries (Point point) kept = absurd cc
-is_second Entries (Points points) kept = absurd cc
-is_second Entries (AugRoot root) kept = absurd cc
-is_second (Sums side) (Root root) kept = absurd cc
-is_second (Sums side) (Point point) kept = refl
-is_second (Sums side) (Points points) kept = absurd cc
-is_second (Sums side) (AugRoot root) kept = absurd cc
-is_second Products (Root root) kept = absurd cc
-is_second Products (Point point) kept = absurd cc
-is_second Products (Points points) kept = points.second.below
-is_second Products (AugRoot root) kept = absurd cc
-is_second (Heavy side) (Root root) kept = absurd cc
-is_second (Heavy side) (Point point) kept = absurd cc
-is_second (Heavy side) (Points points) kept = absurd cc
-is_second (Heavy side) (AugRoot root) kept = omega (arith, told_small root.total root.within)
+pub is_second : (kind : SeatKind) (r : Running) → IsTrue (keeps (query_of kind) (numbers_of r)) → IsUnweighed (numbers_of r) → IsSecond kind (second_number (numbers_of r))
+is_second Entries (Root root) kept bare = refl
+is_second Entries (Point point) kept bare = absurd cc
+is_second Entries (Points points) kept bare = absurd cc
+is_second Entries (AugRoot root) kept bare = absurd cc
+is_second Entries (SplitRoot root) kept bare = absurd cc
+is_second (Sums side) (Root root) kept bare = absurd cc
+is_second (Sums side) (Point point) kept bare = refl
+is_second (Sums side) (Points points) kept bare = absurd cc
+is_second (Sums side) (AugRoot root) kept bare = absurd cc
+is_second (Sums side) (SplitRoot root) kept bare = absurd cc
+is_second Products (Root root) kept bare = absurd cc
+is_second Products (Point point) kept bare = absurd cc
+is_second Products (Points points) kept bare = points.second.below
+is_second Products (AugRoot root) kept bare = absurd cc
+is_second Products (SplitRoot root) kept bare = absurd cc
+is_second (Heavy side) (Root root) kept bare = absurd cc
+is_second (Heavy side) (Point point) kept bare = absurd cc
+is_second (Heavy side) (Points points) kept bare = absurd cc
+is_second (Heavy side) (SplitRoot root) kept bare = absurd cc
+is_second (Heavy side) (AugRoot root) kept bare = omega (arith, told_small root.total root.within)
+is_second (Above side) (Root root) kept bare = absurd cc
+is_second (Above side) (Point point) kept bare = absurd cc
+is_second (Above side) (Points points) kept bare = absurd cc
+is_second (Above side) (AugRoot root) kept bare = absurd cc
+is_second (Above side) (SplitRoot root) kept bare = bare
 
 -- ---- the field of a total
 
@@ -139,6 +158,8 @@ used_told t u Entries x is told = told
 used_told t u (Sums First) x is told = told
 used_told t u (Sums Second) x is told = told
 used_told t u Products x is told = told
+used_told t u (Above First) x is told = told
+used_told t u (Above Second) x is told = told
 used_told t u (Heavy side) x is told =
     heavy_more t u side true x x told (omega (arith, is)) (omega arith) (omega arith) (λ none. absurd cc)
 
@@ -152,21 +173,27 @@ negative_is updates First = refl
 negative_is updates Second = refl
 
 pub raised_told : (kind : SeatKind) (r r' : Running) (updates : List Update) (t : Tally) → IsTrue (keeps (query_of kind) (numbers_of r))
-    → IsTrue (keeps (query_of kind) (numbers_of r')) → IsTotalAfter (numbers_of r) (of_side updates (side_of kind)) (numbers_of r')
+    → IsTrue (keeps (query_of kind) (numbers_of r')) → IsUnweighed (numbers_of r') → IsTotalAfter (numbers_of r) (of_side updates (side_of kind)) (numbers_of r')
     → IsTold t kind false (second_number (numbers_of r)) → IsTold (joined t (tally updates)) kind false (second_number (numbers_of r'))
-raised_told Entries r r' updates t kept kept' after told =
-    let is : second_number (numbers_of r') ≡ 0 = is_second Entries r' kept' in
+raised_told Entries r r' updates t kept kept' bare after told =
+    let is : second_number (numbers_of r') ≡ 0 = is_second Entries r' kept' bare in
     ranged_value Long 0 0 (second_number (numbers_of r')) (omega arith) (omega (arith, is)) (omega (arith, is))
-raised_told (Sums First) r r' updates t kept kept' after told =
-    let is : second_number (numbers_of r') ≡ 0 = is_second (Sums First) r' kept' in
+raised_told (Sums First) r r' updates t kept kept' bare after told =
+    let is : second_number (numbers_of r') ≡ 0 = is_second (Sums First) r' kept' bare in
     ranged_value Long 0 0 (second_number (numbers_of r')) (omega arith) (omega (arith, is)) (omega (arith, is))
-raised_told (Sums Second) r r' updates t kept kept' after told =
-    let is : second_number (numbers_of r') ≡ 0 = is_second (Sums Second) r' kept' in
+raised_told (Sums Second) r r' updates t kept kept' bare after told =
+    let is : second_number (numbers_of r') ≡ 0 = is_second (Sums Second) r' kept' bare in
     ranged_value Long 0 0 (second_number (numbers_of r')) (omega arith) (omega (arith, is)) (omega (arith, is))
-raised_told Products r r' updates t kept kept' after told =
-    let is : second_number (numbers_of r') < m61_modulus = is_second Products r' kept' in
+raised_told Products r r' updates t kept kept' bare after told =
+    let is : second_number (numbers_of r') < m61_modulus = is_second Products r' kept' bare in
     ranged_value Long 0 (m61_modulus - 1) (second_number (numbers_of r')) (omega arith) (omega (arith, is)) (omega (arith, is))
-raised_told (Heavy side) (AugRoot root) (AugRoot root') updates t kept kept' after told =
+raised_told (Above First) r r' updates t kept kept' bare after told =
+    let is : second_number (numbers_of r') ≡ 0 = is_second (Above First) r' kept' bare in
+    ranged_value Long 0 0 (second_number (numbers_of r')) (omega arith) (omega (arith, is)) (omega (arith, is))
+raised_told (Above Second) r r' updates t kept kept' bare after told =
+    let is : second_number (numbers_of r') ≡ 0 = is_second (Above Second) r' kept' bare in
+    ranged_value Long 0 0 (second_number (numbers_of r')) (omega arith) (omega (arith, is)) (omega (arith, is))
+raised_told (Heavy side) (AugRoot root) (AugRoot root') updates t kept kept' bare after told =
     let own = of_side updates side in
     let v = weight_told (tally updates) side in
     let near : nat_abs (root'.total -ℤ root.total) ≤ v =
@@ -181,12 +208,14 @@ raised_told (Heavy side) (AugRoot root) (AugRoot root') updates t kept kept' aft
     last_none : (a b : Bool) → ((false || a) || b) ≡ false → b ≡ false
     last_none true b none = absurd cc
     last_none false b none = none
-raised_told (Heavy side) (Root root) r' updates t kept kept' after told = absurd cc
-raised_told (Heavy side) (Point point) r' updates t kept kept' after told = absurd cc
-raised_told (Heavy side) (Points points) r' updates t kept kept' after told = absurd cc
-raised_told (Heavy side) (AugRoot root) (Root root') updates t kept kept' after told = absurd cc
-raised_told (Heavy side) (AugRoot root) (Point point) updates t kept kept' after told = absurd cc
-raised_told (Heavy side) (AugRoot root) (Points points) updates t kept kept' after told = absurd cc
+raised_told (Heavy side) (Root root) r' updates t kept kept' bare after told = absurd cc
+raised_told (Heavy side) (Point point) r' updates t kept kept' bare after told = absurd cc
+raised_told (Heavy side) (Points points) r' updates t kept kept' bare after told = absurd cc
+raised_told (Heavy side) (SplitRoot root) r' updates t kept kept' bare after told = absurd cc
+raised_told (Heavy side) (AugRoot root) (Root root') updates t kept kept' bare after told = absurd cc
+raised_told (Heavy side) (AugRoot root) (Point point) updates t kept kept' bare after told = absurd cc
+raised_told (Heavy side) (AugRoot root) (Points points) updates t kept kept' bare after told = absurd cc
+raised_told (Heavy side) (AugRoot root) (SplitRoot root') updates t kept kept' bare after told = absurd cc
 
 -- ---- room for more
 
@@ -195,15 +224,29 @@ pub total_within : (w : ℕ) (is_open : Bool) (x : ℕ) → IsValue (total_field
 total_within w true x value = let (low, high) = ranged_from Long (most_weight - w) (most_weight + w) x value in (omega (arith, low), high)
 total_within w false x value = let (low, high) = ranged_from Long (most_weight + w) (most_weight + w) x value in (omega (arith, low), high)
 
+-- the second number of a seat for large entries is 0
+pub bare_told : (t : Tally) (side : Side) (x : ℕ) → IsTold t (Above side) false x → x ≡ 0
+bare_told t First x told = let bounds = ranged_from Long 0 0 x told in omega (arith, bounds.1)
+bare_told t Second x told = let bounds = ranged_from Long 0 0 x told in omega (arith, bounds.1)
+
 pub kept_room : (kind : SeatKind) (t : Tally) (first x : ℕ) (updates : List Update) → IsTold t kind false x
     → weight_told t (side_of kind) + weight updates (side_of kind) ≤ most_weight → HasRoom (numbers_kept kind first x) (of_side updates (side_of kind))
-kept_room Entries t first x updates told light = λ hash total is k few. absurd cc
-kept_room (Sums side) t first x updates told light = λ hash total is k few. absurd cc
-kept_room Products t first x updates told light = λ hash total is k few. absurd cc
-kept_room (Heavy side) t first x updates told light = λ hash total is k few.
-    let same : pos x -ℤ pos most_weight ≡ total = cc in
-    let own = subst (λ (f : Field). IsValue f x) (heavy_field t side false) told in
-    let w = weight_told t side in
-    let within = total_within w (negative_told t side) x own in
-    let start : nat_abs total ≤ w = subst (λ z. nat_abs z ≤ w) same (omega (arith, ints, within.0, within.1, light)) in
-    omega (arith, light_after (of_side updates side) total w k start, light)
+kept_room Entries t first x updates told light = record { sums = λ hash total is k few. absurd cc; weights = λ hash weight is. absurd cc }
+kept_room (Sums side) t first x updates told light = record { sums = λ hash total is k few. absurd cc; weights = λ hash weight is. absurd cc }
+kept_room Products t first x updates told light = record { sums = λ hash total is k few. absurd cc; weights = λ hash weight is. absurd cc }
+kept_room (Above side) t first x updates told light = record {
+  sums = λ hash total is k few. absurd cc;
+  weights = λ hash weight is.
+      let bare : weight ≡ 0 = sym (let same : x ≡ weight = cc in same) ∙ bare_told t side x told in
+      omega (arith, weight_after_is (of_side updates (side_of (Above side))) weight, bare, light);
+}
+kept_room (Heavy side) t first x updates told light = record {
+  sums = λ hash total is k few.
+      let same : pos x -ℤ pos most_weight ≡ total = cc in
+      let own = subst (λ (f : Field). IsValue f x) (heavy_field t side false) told in
+      let w = weight_told t side in
+      let within = total_within w (negative_told t side) x own in
+      let start : nat_abs total ≤ w = subst (λ z. nat_abs z ≤ w) same (omega (arith, ints, within.0, within.1, light)) in
+      omega (arith, light_after (of_side updates side) total w k start, light);
+  weights = λ hash weight is. absurd cc;
+}

@@ -9,7 +9,7 @@ use Rattle.sip_sketch.specs.Fields.{Field, IsValue}
 use Rattle.sip_sketch.specs.Marking.{mark, used, used_at}
 use Rattle.sip_sketch.specs.Sketches.{IsSketch, SeatValues, SketchValues, code_of, long, second_of, total_field}
 use Rattle.sip_sketch.specs.declared.kind.SeatKind.{SeatKind}
-use Rattle.sip_sketch.specs.declared.kind.SeatKind.TheVariants.{Entries, Sums, Products, Heavy}
+use Rattle.sip_sketch.specs.declared.kind.SeatKind.TheVariants.{Above, Entries, Heavy, Products, Sums}
 use Rattle.sip_sketch.proofs.Kept.{heavy_field, negative_told, weight_told}
 use Rattle.sip_sketch.proofs.Sound.{head_with, sound_from}
 use Rattle.sip_sketch.proofs.Whole.{SeatFits, fits_from, head_from, ranged_from, ranged_value, sketch_from}
@@ -44,6 +44,8 @@ used-second t Entries is x value = value
 used-second t (Sums First) is x value = value
 used-second t (Sums Second) is x value = value
 used-second t Products is x value = value
+used-second t (Above First) is x value = value
+used-second t (Above Second) is x value = value
 used-second t (Heavy side) is x value =
     let own = subst (λ (f : Field). IsValue f x) (heavy_field t side is) value in
     subst (λ (f : Field). IsValue f x) (sym (heavy_field t side true)) (opened (weight_told t side) x (is || negative_told t side) own)

@@ -7,7 +7,7 @@ use Rattle.sip_vector.specs.declared.tally.Tally.{Tally}
 use Rattle.sip_vector.specs.declared.update.Side.TheVariants.{First, Second}
 use Rattle.sip_sketch.specs.declared.cursor.Size.TheVariants.{Long}
 use Rattle.sip_sketch.specs.declared.kind.SeatKind.{SeatKind}
-use Rattle.sip_sketch.specs.declared.kind.SeatKind.TheVariants.{Entries, Sums, Products, Heavy}
+use Rattle.sip_sketch.specs.declared.kind.SeatKind.TheVariants.{Above, Entries, Heavy, Products, Sums}
 use Rattle.sip_sketch.specs.declared.reading.Head.{Head}
 use Rattle.sip_sketch.specs.Fields.{Field, Fields, digest, one, spelled, spelled_behind}
 use Rattle.sip_sketch.specs.Sketches.{SeatValues, code_of, element, elements, magic, numbers, seat_fields, seat_numbers, second_of, seats_fields, sketch_file, spelled_file}
@@ -70,6 +70,8 @@ second_size t (Sums Second) used = refl
 second_size t Products used = refl
 second_size t (Heavy First) used = refl
 second_size t (Heavy Second) used = refl
+second_size t (Above First) used = refl
+second_size t (Above Second) used = refl
 
 abbrev pub PutsSeats : List ℕ → List ℕ → ℕ → Tally → List SeatValues → ℕ → Type 0
 PutsSeats a b depth t seats i =

@@ -10,7 +10,7 @@ use Rattle.sip_vector.specs.declared.update.Side.TheVariants.{First, Second}
 use Rattle.sip_sketch.specs.declared.cursor.Size.{Size}
 use Rattle.sip_sketch.specs.declared.cursor.Size.TheVariants.{Byte, Long}
 use Rattle.sip_sketch.specs.declared.kind.SeatKind.{SeatKind}
-use Rattle.sip_sketch.specs.declared.kind.SeatKind.TheVariants.{Entries, Sums, Products, Heavy}
+use Rattle.sip_sketch.specs.declared.kind.SeatKind.TheVariants.{Above, Entries, Heavy, Products, Sums}
 use Rattle.sip_sketch.specs.Fields.{AreValues, Fields, IsValue, width_of}
 use Rattle.sip_sketch.specs.Sketches.{IsSketch, SeatValues, SketchValues, bits_of, byte, code_of, element, elements, long, most_seats, negatives_field}
 use Rattle.sip_sketch.specs.Sketches.{ranged, seat_fields, seat_numbers, seats_fields, second_of, word}
@@ -61,7 +61,7 @@ seat_from depth t s rest behind levels (kind, (used, more)) =
     let (first, (second, left)) = both.1 in
     (record { levels = levels; block = both.0; first = first; second = second }, left)
 
-seat_to : (depth : ℕ) (t : Tally) (s : SeatValues) (rest : List ℕ) (behind : Fields) → IsValue (byte 1 6) (code_of s.kind)
+seat_to : (depth : ℕ) (t : Tally) (s : SeatValues) (rest : List ℕ) (behind : Fields) → IsValue (byte 1 8) (code_of s.kind)
     → IsValue (byte 0 1) (from_bool s.is_used) → SeatFits depth t s → AreValues behind rest
     → AreValues (seat_fields depth (second_of t) behind) (seat_numbers s ++ rest)
 seat_to depth t s rest behind kind used fits left =
@@ -86,16 +86,18 @@ seats_from depth t (x ∷ xs) levels v =
     let both = seat_from depth t x (flat_map seat_numbers xs) (seats_fields depth (second_of t) (length xs)) (All-head Levels x xs levels) v in
     All-cons (SeatFits depth t) x xs both.0 (seats_from depth t xs (All-tail Levels x xs levels) both.1)
 
-kind_value : (s : SeatValues) → IsValue (byte 1 6) (code_of s.kind)
+kind_value : (s : SeatValues) → IsValue (byte 1 8) (code_of s.kind)
 kind_value s = by_kind s.kind
   where
-    by_kind : (k : SeatKind) → IsValue (byte 1 6) (code_of k)
+    by_kind : (k : SeatKind) → IsValue (byte 1 8) (code_of k)
     by_kind Entries = (refl, omega arith)
     by_kind (Sums First) = (refl, omega arith)
     by_kind (Sums Second) = (refl, omega arith)
     by_kind Products = (refl, omega arith)
     by_kind (Heavy First) = (refl, omega arith)
     by_kind (Heavy Second) = (refl, omega arith)
+    by_kind (Above First) = (refl, omega arith)
+    by_kind (Above Second) = (refl, omega arith)
 
 used_value : (b : Bool) → IsValue (byte 0 1) (from_bool b)
 used_value true = (refl, omega arith)

@@ -1,10 +1,11 @@
 -- A sketch at depth 2 with a seat for entries and one for sums of side 0, as its seed draws them.
-use Rattle.std.specs.Prelude.{ℕ, ◌+◌, false, List, [], ◌∷◌, ◌++◌, length, take, drop}
+use Rattle.std.specs.Prelude.{ℕ, ◌+◌, false, pos, negsuc, List, [], ◌∷◌, ◌++◌, length, take, drop}
 use Rattle.std.specs.Int.{w64, to_be_bytes}
 use Rattle.sip_vector.specs.Streams.{most_weight}
-use Rattle.sip_sketch.specs.Sketches.{SketchValues}
-use Rattle.sip_sketch.specs.declared.kind.SeatKind.TheVariants.{Entries, Sums}
+use Rattle.sip_sketch.specs.Sketches.{SeatValues, SketchValues}
+use Rattle.sip_sketch.specs.declared.kind.SeatKind.TheVariants.{Above, Entries, Sums}
 use Rattle.sip_vector.specs.declared.update.Side.TheVariants.{First}
+use Rattle.sip_vector.specs.declared.update.Update.{Update}
 use Rattle.sip_vector.specs.declared.tally.Negatives.{Negatives}
 
 abbrev pub none_negative : Negatives
@@ -138,3 +139,24 @@ modulus_bytes = 0x1f ∷ 0xff ∷ 0xff ∷ 0xff ∷ 0xff ∷ 0xff ∷ 0xff ∷ 0
 abbrev pub heavy_bytes : ℕ → List ℕ
 heavy_bytes total = changed (changed watched_bytes 51 (1 ∷ 5 ∷ [])) 78
     (to_be_bytes w64 (most_weight + total))
+
+-- of a sketch with one seat, for large entries, which has this code
+abbrev pub above_bytes : ℕ → List ℕ
+above_bytes code = changed watched_bytes 51 (1 ∷ code ∷ [])
+
+-- records of side 0 that add up to (0, 5, -9, 3), with the weights (0, 5, 9, 5)
+abbrev pub credits : List Update
+credits = record { side = First; item = 1; delta = pos 5 }
+    ∷ record { side = First; item = 2; delta = negsuc 8 }
+    ∷ record { side = First; item = 3; delta = pos 4 }
+    ∷ record { side = First; item = 3; delta = negsuc 0 } ∷ []
+
+-- the seat for their large entries, at the challenges 2 and 10
+abbrev pub of_credits : SeatValues
+of_credits = record {
+  kind = Above First;
+  is_used = false;
+  block = 2 ∷ 10 ∷ [];
+  first = 20210;
+  second = 0;
+}

@@ -9,7 +9,7 @@ use Rattle.sip_vector.specs.Streams.{most_weight}
 use Rattle.sip_vector.specs.Tallies.{joined}
 use Rattle.sip_sketch.specs.Sketches.{SeatValues, SketchValues, code_of}
 use Rattle.sip_sketch.specs.declared.kind.SeatKind.{SeatKind}
-use Rattle.sip_sketch.specs.declared.kind.SeatKind.TheVariants.{Entries, Sums, Products, Heavy}
+use Rattle.sip_sketch.specs.declared.kind.SeatKind.TheVariants.{Above, Entries, Heavy, Products, Sums}
 use Rattle.sip_sketch.specs.declared.parts.Parts.{Parts}
 use Rattle.sip_sketch.specs.declared.unlike.Unlike.{Unlike}
 use Rattle.sip_sketch.specs.declared.unlike.Unlike.TheVariants as reasons
@@ -54,6 +54,7 @@ added_second Entries one other = 0
 added_second (Sums side) one other = 0
 added_second Products one other = (one + other) % m61_modulus
 added_second (Heavy side) one other = one + other - most_weight
+added_second (Above side) one other = 0
 
 -- a seat with the numbers of both; a used one stays as it is
 abbrev pub added_seat : SeatValues → SeatValues → SeatValues

@@ -8,7 +8,7 @@ use Rattle.sip_vector.specs.declared.tally.Tally.{Tally}
 use Rattle.sip_vector.specs.declared.update.Side.TheVariants.{First, Second}
 use Rattle.sip_sketch.specs.Sketches.{SeatValues, SketchValues}
 use Rattle.sip_sketch.specs.declared.kind.SeatKind.{SeatKind}
-use Rattle.sip_sketch.specs.declared.kind.SeatKind.TheVariants.{Entries, Sums, Products, Heavy}
+use Rattle.sip_sketch.specs.declared.kind.SeatKind.TheVariants.{Above, Entries, Heavy, Products, Sums}
 use Rattle.sip_sketch.specs.declared.parts.Parts.{Parts}
 
 -- the word by which a seat of this kind is asked for, without a number
@@ -19,6 +19,8 @@ kind_word (Sums Second) = codes "sums:1"
 kind_word Products = codes "products"
 kind_word (Heavy First) = codes "heavy:0"
 kind_word (Heavy Second) = codes "heavy:1"
+kind_word (Above First) = codes "above:0"
+kind_word (Above Second) = codes "above:1"
 
 abbrev pub depth_line : ℕ → List ℕ
 depth_line depth = codes "depth " ++ decimal depth ++ 10 ∷ []

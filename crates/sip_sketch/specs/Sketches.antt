@@ -14,7 +14,7 @@ use Rattle.sip_sketch.specs.Fields.{AreValues, spelling}
 use Rattle.sip_sketch.specs.declared.cursor.Size.{Size}
 use Rattle.sip_sketch.specs.declared.cursor.Size.TheVariants.{Byte, Word, Long}
 use Rattle.sip_sketch.specs.declared.kind.SeatKind.{SeatKind}
-use Rattle.sip_sketch.specs.declared.kind.SeatKind.TheVariants.{Entries, Sums, Products, Heavy}
+use Rattle.sip_sketch.specs.declared.kind.SeatKind.TheVariants.{Above, Entries, Heavy, Products, Sums}
 use Rattle.sip_sketch.specs.declared.parts.Parts.{Parts}
 
 -- a seat: what it serves, whether a question has used it, its challenges, and two numbers
@@ -84,7 +84,7 @@ elements (suc n) behind = one element (λ _. elements n behind)
 
 -- a seat at this depth, where this field is the second number of a code and a use
 abbrev pub seat_fields : ℕ → (ℕ → ℕ → Field) → Fields → Fields
-seat_fields depth number behind = one (byte 1 6) (λ kind. one (byte 0 1) (λ used.
+seat_fields depth number behind = one (byte 1 8) (λ kind. one (byte 0 1) (λ used.
     elements depth (one element (λ _. one (number kind used) (λ _. behind)))))
 
 -- so many seats, and the digest
@@ -127,6 +127,8 @@ code_of (Sums Second) = 3
 code_of Products = 4
 code_of (Heavy First) = 5
 code_of (Heavy Second) = 6
+code_of (Above First) = 7
+code_of (Above Second) = 8
 
 abbrev pub seat_numbers : SeatValues → List ℕ
 seat_numbers s =

@@ -9,16 +9,16 @@ use Rattle.sip_vector.specs.Streams.{IsLegal, most_weight, weight}
 use Rattle.sip_vector.specs.Tallies.{tally}
 use Rattle.sip_verifier.specs.Draws.{challenges_of}
 use Rattle.sip_verifier.specs.QuerySeats.{RunsOn}
-use Rattle.sip_sketch.specs.Seats.{numbers_kept, query_of}
+use Rattle.sip_sketch.specs.Seats.{beside, numbers_kept, query_of, side_of}
 use Rattle.sip_sketch.specs.Sketches.{SeatValues, SketchValues}
 use Rattle.sip_sketch.specs.declared.kind.SeatKind.{SeatKind}
 use Rattle.sip_sketch.specs.declared.parts.Parts.{Parts}
 
--- the numbers of a seat are those of the stream's vectors at its block
+-- the numbers of a seat, with the weight of its side, are those of the stream's vectors at its block
 abbrev pub SeatStands : ℕ → List Update → SeatValues → Type 0
 SeatStands depth stream seat =
     RunsOn depth stream (query_of seat.kind) seat.block
-    (numbers_kept seat.kind seat.first seat.second)
+    (beside (weight stream (side_of seat.kind)) (numbers_kept seat.kind seat.first seat.second))
 
 -- The stream is legal, what is told of it is told in the sketch, and the numbers of each unused
 -- seat are its. Of a used seat's numbers nothing is said: no record is added to it any more.

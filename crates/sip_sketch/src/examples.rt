@@ -9,9 +9,11 @@ ghost use Rattle.sip_sketch.specs.Joining.{added, unlike};
 ghost use Rattle.sip_sketch.specs.Sketches.{numbers, sketch_file, spelled_file};
 ghost use Rattle.sip_sketch.specs.declared.unlike.Unlike.TheVariants as reasons;
 ghost use Rattle.sip_vector.specs.declared.update.Side.TheVariants as sides;
-ghost use Rattle.sip_sketch.specs.Examples.{begun, begun_bytes, begun_digest, changed, heavy_bytes};
-ghost use Rattle.sip_sketch.specs.Examples.{modulus_bytes, watched, with_parts, with_weight};
-ghost use Rattle.sip_sketch.specs.Examples.{watched_bytes, watched_digest};
+ghost use Rattle.sip_sketch.specs.Examples.{above_bytes, begun, begun_bytes, begun_digest, changed};
+ghost use Rattle.sip_sketch.specs.Examples.{credits, heavy_bytes, modulus_bytes, of_credits};
+ghost use Rattle.sip_sketch.specs.Examples.{watched, watched_bytes, watched_digest, with_parts};
+ghost use Rattle.sip_sketch.specs.Examples.{with_weight};
+ghost use Rattle.sip_sketch.specs.Standing.{SeatStands};
 
 /// The sketches of the empty stream and of three records are spelled by their bytes, with the
 /// digests of these behind them.
@@ -68,6 +70,26 @@ pub fn faults_of_a_total()
 #[tactic(auto, unfolding(sha2::specs::Sha256::first_words, sha2::specs::Sha256::schedule, sha2::specs::Sha256::rounds, sha2::specs::Sha256::compress, sha2::specs::Sha256::hash_after, sha2::specs::Sha256::digest_bytes, sha2::specs::Sha256::sha256))]
 pub fn the_total_is_the_weight()
     ensures { read sketch_file (heavy_bytes 9) ≡ Err 86 }
+{}
+
+/// A seat for large entries has the code 7 or 8, by its side, and its second number is 0: the weight
+/// of the side is told in the head.
+pub fn faults_of_large_entries()
+    ensures first { read sketch_file (changed (above_bytes 7) 85 (1 ∷ [])) ≡ Err 78 }
+    ensures second { read sketch_file (changed (above_bytes 8) 85 (1 ∷ [])) ≡ Err 78 }
+    ensures code { read sketch_file (above_bytes 9) ≡ Err 52 }
+{}
+
+/// Where it is, the digest stands behind it.
+#[tactic(auto, unfolding(sha2::specs::Sha256::first_words, sha2::specs::Sha256::schedule, sha2::specs::Sha256::rounds, sha2::specs::Sha256::compress, sha2::specs::Sha256::hash_after, sha2::specs::Sha256::digest_bytes, sha2::specs::Sha256::sha256))]
+pub fn large_entries_have_no_second_number()
+    ensures first { read sketch_file (above_bytes 7) ≡ Err 86 }
+    ensures second { read sketch_file (above_bytes 8) ≡ Err 86 }
+{}
+
+/// The seat of values (0, 5, -9, 3) with the weights (0, 5, 9, 5), at 2 and 10, has the hash 20210.
+pub fn a_large_seat_by_hand()
+    ensures { SeatStands 2 credits of_credits }
 {}
 
 /// A part is added behind the one before it and nowhere else, and a whole sketch is none. Two sides

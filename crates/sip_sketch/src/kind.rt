@@ -19,10 +19,12 @@ pub enum SeatKind {
     Products,
     /// Heavy hitters of a side: the root of its augmented tree.
     Heavy(Side),
+    /// Large entries of a side, also where others are below 0: the root of its split tree.
+    Above(Side),
 }
 
 impl SeatKind {
-    /// Its code in a file, from 1 to 6.
+    /// Its code in a file, from 1 to 8.
     pub fn code(self) -> u8
         ensures { result ≡ code_of self }
     {
@@ -33,6 +35,8 @@ impl SeatKind {
             SeatKind::Products => 4,
             SeatKind::Heavy(Side::First) => 5,
             SeatKind::Heavy(Side::Second) => 6,
+            SeatKind::Above(Side::First) => 7,
+            SeatKind::Above(Side::Second) => 8,
         }
     }
 
@@ -48,23 +52,25 @@ impl SeatKind {
             SeatKind::Products => "products",
             SeatKind::Heavy(Side::First) => "heavy:0",
             SeatKind::Heavy(Side::Second) => "heavy:1",
+            SeatKind::Above(Side::First) => "above:0",
+            SeatKind::Above(Side::Second) => "above:1",
         }
     }
 
     /// The side whose vector it is about; the first, where it is about both.
-    pub(crate) fn side(self) -> Side
+    pub fn side(self) -> Side
         ensures { result ≡ side_of self }
     {
         match self {
             SeatKind::Entries | SeatKind::Products => Side::First,
-            SeatKind::Sums(side) | SeatKind::Heavy(side) => side,
+            SeatKind::Sums(side) | SeatKind::Heavy(side) | SeatKind::Above(side) => side,
         }
     }
 
     /// The kind that has this code.
     pub(crate) fn of_code(code: u64) -> SeatKind
         requires least { 1 ≤ code }
-        requires most { code ≤ 6 }
+        requires most { code ≤ 8 }
         ensures { code_of result ≡ code }
     {
         match code {
@@ -73,7 +79,9 @@ impl SeatKind {
             3 => SeatKind::Sums(Side::Second),
             4 => SeatKind::Products,
             5 => SeatKind::Heavy(Side::First),
-            _ => SeatKind::Heavy(Side::Second),
+            6 => SeatKind::Heavy(Side::Second),
+            7 => SeatKind::Above(Side::First),
+            _ => SeatKind::Above(Side::Second),
         }
     }
 }

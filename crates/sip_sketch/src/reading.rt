@@ -170,7 +170,7 @@ fn seconds(kind: SeatKind, is_used: bool, tally: &Tally) -> (u64, u64)
     ensures each { (x : ℕ) → result.0 ≤ x → x ≤ result.1 → IsSecond kind x }
 {
     match kind {
-        SeatKind::Entries | SeatKind::Sums(_) => (0, 0),
+        SeatKind::Entries | SeatKind::Sums(_) | SeatKind::Above(_) => (0, 0),
         SeatKind::Products => (0, MOST_ELEMENT),
         SeatKind::Heavy(Side::First) => totals(tally.first, is_used || tally.negatives.first),
         SeatKind::Heavy(Side::Second) => totals(tally.second, is_used || tally.negatives.second),
@@ -185,7 +185,7 @@ fn take_seat(cursor: &mut Cursor, depth: Depth, tally: &Tally) -> Result<SketchS
         (seat_fields depth (second_of tally.now) behind) seat_numbers (λ _. behind) result }
     ensures block { IfOk result (λ seat. length seat.block ≡ depth) }
 {
-    let code = cursor.number(Size::Byte, 1, 6)?;
+    let code = cursor.number(Size::Byte, 1, 8)?;
     let used = cursor.number(Size::Byte, 0, 1)?;
     let block = take_block(cursor, depth)?;
     let first = cursor.number(Size::Long, 0, MOST_ELEMENT)?;

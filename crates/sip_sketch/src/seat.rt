@@ -4,7 +4,7 @@ ghost use Rattle.std.specs.Prelude.{◌≡◌, ◌<◌, ◌≤◌, ◌^◌, ◌+
 ghost use Rattle.std.specs.Prelude.{length, All, IsTrue, false, true};
 ghost use Rattle.sip_field.specs.Moduli.{m61_modulus};
 ghost use Rattle.sip_vector.specs.Limits.{most_depth};
-ghost use Rattle.sip_vector.specs.Streams.{most_weight, of_side};
+ghost use Rattle.sip_vector.specs.Streams.{most_weight, of_side, weight};
 ghost use Rattle.sip_vector.specs.Tallies.{tally};
 ghost use Rattle.sip_vector.specs.declared.query.Query.{Query as AnyQuery};
 ghost use Rattle.sip_vector.specs.declared.update.Side.TheVariants as sides;
@@ -12,8 +12,8 @@ ghost use Rattle.sip_vector.specs.declared.update.Update.{Update as AnyUpdate};
 ghost use Rattle.sip_verifier.specs.QuerySeats.{HasRoom, RunsOn, keeps};
 ghost use Rattle.sip_verifier.specs.Running.{block_of, numbers_of};
 ghost use Rattle.sip_sketch.specs.Joining.{added_seat};
-ghost use Rattle.sip_sketch.specs.Seats.{IsSecond, first_number, numbers_kept, query_of};
-ghost use Rattle.sip_sketch.specs.Seats.{second_number, side_of};
+ghost use Rattle.sip_sketch.specs.Seats.{IsSecond, IsUnweighed, beside, first_number};
+ghost use Rattle.sip_sketch.specs.Seats.{numbers_kept, query_of, second_number, side_of};
 ghost use Rattle.sip_sketch.specs.Standing.{SeatStands};
 ghost use Rattle.sip_sketch.specs.declared.kind.SeatKind.{SeatKind as AnyKind};
 ghost use Rattle.sip_sketch.specs.inside.Adding.{AddUp};
@@ -23,7 +23,7 @@ ghost use Rattle.sip_sketch.specs.inside.Raising.{StartsAt};
 use crate::SeatKind;
 use sip_field::{Field, M61, OutOfMemory, Seat};
 use sip_mle::Point;
-use sip_tree::{AugRoot, Root};
+use sip_tree::{AugRoot, Root, SplitRoot};
 use sip_vector::{CAP, Side, Update};
 use sip_verifier::{Points, Running};
 use std::alloc::Global;
@@ -48,6 +48,7 @@ pub(crate) fn running_of(kind: SeatKind, block: Seat<M61, CAP>, first: u64, seco
     ensures block { block_of result ≡ block }
     ensures first { first_number (numbers_of result) ≡ first }
     ensures second { second_number (numbers_of result) ≡ second }
+    ensures unweighed { IsUnweighed (numbers_of result) }
 {
     match kind {
         SeatKind::Entries => Running::Root(Root::of(block, first)),
@@ -59,6 +60,24 @@ pub(crate) fn running_of(kind: SeatKind, block: Seat<M61, CAP>, first: u64, seco
         SeatKind::Heavy(_) => {
             Running::AugRoot(AugRoot::of(block, first, second as i64 - MOST_TOTAL))
         }
+        SeatKind::Above(_) => Running::SplitRoot(SplitRoot {
+            seat: block,
+            hash: first,
+            weight: 0,
+        }),
+    }
+}
+
+// Puts the weight of a side beside a hash.
+pub(crate) fn weigh(running: &mut Running, weight: u64)
+    requires { weight ≤ most_weight }
+    ensures block { block_of running.new ≡ block_of running.old }
+    ensures keeps { (query : AnyQuery) → keeps query (numbers_of running.new)
+        ≡ keeps query (numbers_of running.old) }
+    ensures numbers { numbers_of running.new ≡ beside weight (numbers_of running.old) }
+{
+    if let Running::SplitRoot(root) = running {
+        root.weight = weight;
     }
 }
 
@@ -71,6 +90,7 @@ fn first_of(running: &Running) -> u64
         Running::Point(point) => point.value,
         Running::Points(points) => points.first.value,
         Running::AugRoot(root) => root.hash,
+        Running::SplitRoot(root) => root.hash,
     }
 }
 
@@ -82,6 +102,7 @@ fn second_of(running: &Running) -> u64
         Running::Root(_) | Running::Point(_) => 0,
         Running::Points(points) => points.second.number(),
         Running::AugRoot(root) => raised(root.total()),
+        Running::SplitRoot(root) => root.weight(),
     }
 }
 
@@ -90,14 +111,16 @@ fn begun(kind: SeatKind, block: Seat<M61, CAP>) -> Running
     ensures keeps { IsTrue (keeps (query_of kind) (numbers_of result)) }
     ensures block { block_of result ≡ block }
     ensures starts { StartsAt (numbers_of result) }
-    ensures runs { (depth : ℕ) → length block ≡ depth
-        → RunsOn depth [] (query_of kind) (block_of result) (numbers_of result) }
+    ensures unweighed { IsUnweighed (numbers_of result) }
+    ensures runs { (depth : ℕ) → length block ≡ depth → RunsOn depth [] (query_of kind)
+        (block_of result) (beside (weight [] (side_of kind)) (numbers_of result)) }
 {
     match kind {
         SeatKind::Entries => Running::Root(Root::new(block)),
         SeatKind::Sums(_) => Running::Point(Point::new(block)),
         SeatKind::Products => Running::Points(Points::new(block)),
         SeatKind::Heavy(_) => Running::AugRoot(AugRoot::new(block)),
+        SeatKind::Above(_) => Running::SplitRoot(SplitRoot::new(block)),
     }
 }
 
@@ -112,7 +135,8 @@ fn own_of<'a>(side: Side, firsts: &'a [Update], seconds: &'a [Update]) -> &'a [U
 }
 
 // Adds updates to running numbers: those of the side, or of both sides where they are of both. What
-// a total comes to is to be told too, so it is not left to the numbers of a query.
+// a total comes to is to be told too, so it is not left to the numbers of a query. No weight is kept
+// beside a hash, since what is told of the stream has the side's.
 fn raise(running: &mut Running, side: Side, firsts: &[Update], seconds: &[Update])
     requires shallow { length (block_of running.old) ≤ most_depth }
     requires firsts { All (λ u. u.item < 2 ^ length (block_of running.old)) firsts.now }
@@ -125,12 +149,14 @@ fn raise(running: &mut Running, side: Side, firsts: &[Update], seconds: &[Update
         ≡ keeps query (numbers_of running.old) }
     ensures total { IsTotalAfter (numbers_of running.old) (own_of side firsts.now seconds.now)
         (numbers_of running.new) }
+    ensures unweighed { IsUnweighed (numbers_of running.new) }
     ensures runs { (depth : ℕ) (stream updates : List AnyUpdate) (kind : AnyKind)
         → side_of kind ≡ side → firsts.now ≡ of_side updates sides.First
         → seconds.now ≡ of_side updates sides.Second
-        → RunsOn depth stream (query_of kind) (block_of running.old) (numbers_of running.old)
+        → RunsOn depth stream (query_of kind) (block_of running.old)
+        (beside (weight stream (side_of kind)) (numbers_of running.old))
         → RunsOn depth (stream ++ updates) (query_of kind) (block_of running.new)
-        (numbers_of running.new) }
+        (beside (weight (stream ++ updates) (side_of kind)) (numbers_of running.new)) }
 {
     let own = own_of(side, firsts, seconds);
     match running {
@@ -141,6 +167,10 @@ fn raise(running: &mut Running, side: Side, firsts: &[Update], seconds: &[Update
             points.update_all(Side::Second, seconds);
         }
         Running::AugRoot(root) => root.update_all(own),
+        Running::SplitRoot(root) => {
+            root.update_all(own);
+            root.weight = 0;
+        }
     }
 }
 
@@ -157,7 +187,7 @@ impl Model for SketchSeat {
     ghost use Rattle.std.specs.Prelude.{IsTrue};
     ghost use Rattle.sip_verifier.specs.QuerySeats.{keeps};
     ghost use Rattle.sip_verifier.specs.Running.{block_of, numbers_of};
-    ghost use Rattle.sip_sketch.specs.Seats.{first_number, query_of, second_number};
+    ghost use Rattle.sip_sketch.specs.Seats.{IsUnweighed, first_number, query_of, second_number};
     ghost use Rattle.sip_sketch.specs.Sketches.{SeatValues};
 
     ghost Value = { SeatValues };
@@ -170,7 +200,8 @@ impl Model for SketchSeat {
       second = second_number (numbers_of s.running);
     } };
 
-    ghost invariant = { λ s. IsTrue (keeps (query_of s.kind) (numbers_of s.running)) };
+    ghost invariant = { λ s. IsTrue (keeps (query_of s.kind) (numbers_of s.running))
+        × IsUnweighed (numbers_of s.running) };
 }
 
 impl SketchSeat {

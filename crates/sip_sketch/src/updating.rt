@@ -97,8 +97,8 @@ impl Sketch {
     }
 
     /// Keeps tables of the challenges of each unused seat, by which blocks are added from now on: 2
-    /// KiB for a seat and eight levels, and 4 for heavy hitters. So 64 seats at depth 48 take 768
-    /// KiB at the least, and 1,536 at the most. The sketch stays as it is, also where there is no
+    /// KiB for a seat and eight levels, 4 for heavy hitters, and none for large entries. So 64 seats
+    /// at depth 48 take 1,536 KiB at the most. The sketch stays as it is, also where there is no
     /// memory.
     pub fn keep_tables(&mut self, alloc: Global) -> Result<(), OutOfMemory>
         ensures { self.new ≡ self.old }

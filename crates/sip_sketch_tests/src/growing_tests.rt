@@ -100,3 +100,36 @@ fn a_total_stands_in_the_file(rt: HostRuntime) {
         assert!(rt; bytes[42] == negatives, "the negatives behind {item}");
     }
 }
+
+// Its second number is 0 whatever comes: the weight of the side stands in the head. The first is
+// the hash of values and of weights, of which the latter only grow.
+#[test]
+fn a_seat_for_large_entries_has_one_number(rt: HostRuntime) {
+    let depth = Depth::new(2).expect(&rt, "a depth");
+    let kinds = [SeatKind::Above(Side::First)];
+    let mut sketch = Sketch::begin(rt.alloc(), &[0; 32], depth, 1, 1, &kinds).expect(&rt, "memory");
+    let updates = [
+        (1, 5, 0x0270_ba45_3f0f_211a_u64, 5),
+        (2, -9, 0x19a3_b31a_4f57_669f, 14),
+        (3, 4, 0x0340_097a_05df_fa4d, 18),
+        (3, -1, 0x101f_94a8_437e_e5b4, 19),
+    ];
+    for (item, delta, hash, weight) in updates {
+        let update = [Update {
+            side: Side::First,
+            item,
+            delta,
+        }];
+        let may_come = sketch.takes(&update);
+        assert!(rt; may_come, "a legal record");
+        sketch.update_all(&update);
+        let mut bytes = Vec::new(rt.alloc());
+        sketch.write(&mut bytes).expect(&rt, "memory");
+        assert!(rt;
+            bytes[70..78] == hash.to_be_bytes()[..],
+            "the hash at {weight}"
+        );
+        assert!(rt; bytes[78..86] == [0; 8], "no second number at {weight}");
+        assert!(rt; bytes[25] == weight, "the weight {weight}");
+    }
+}

@@ -26,6 +26,8 @@ seat 3 sums:1 unused
 seat 4 products unused
 seat 5 heavy:0 unused
 seat 6 heavy:1 unused
+seat 7 above:0 unused
+seat 8 above:1 unused
 ";
 
 const USED_LINES: &str = "depth 2

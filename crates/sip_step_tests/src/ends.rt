@@ -53,6 +53,7 @@ fn line_of(alloc: Global, given: &QuestionGiven, pairs: &[Entry]) -> Result<Vec<
     match given {
         QuestionGiven::Number { query, value } => write_number(&mut report, query, *value)?,
         QuestionGiven::Pairs { query } => write_pairs(&mut report, query, pairs)?,
+        QuestionGiven::Large { large } => write_pairs(&mut report, &large.query(), pairs)?,
         QuestionGiven::Lookup { lookup, answer } => write_look(&mut report, *lookup, *answer)?,
         QuestionGiven::Moment { moment, value } => write_moment(&mut report, *moment, *value)?,
     }

@@ -1,5 +1,5 @@
 // Questions of every kind that are driven by hand, over the vector (3, 0, 5, 1) at the challenges 2
-// and 10.
+// and 10, and for large entries over (0, 5, -9, 3) with the weights (0, 5, 9, 5).
 ghost use Rattle.std.specs.Prelude.{◌≡◌, IfOk, IfSome, IsTrue};
 ghost use Rattle.sip_verifier.specs.QuerySeats.{keeps};
 ghost use Rattle.sip_verifier.specs.Running.{block_of, numbers_of};
@@ -12,15 +12,16 @@ use sip_mle::Point;
 use sip_ports::{MemoryLink, PortStop};
 use sip_questions::Question;
 use sip_steps::QuestionAsking;
-use sip_tree::{AugRoot, Root};
+use sip_tree::{AugRoot, Root, SplitRoot};
 use sip_vector::{CAP, Depth, Query};
 use sip_verifier::{Running, Unanswered};
 use sip_wire::Version;
 use std::alloc::Global;
 use std::test::Fail;
 
-// The numbers of that vector that a query is judged by, at these challenges: its root is 73, its
-// extension -3, and its augmented root 8739 with the total 9.
+// The numbers that a query is judged by, at these challenges: of that vector the root is 73, the
+// extension -3, and the augmented root 8739 with the total 9; of the other one the split root is
+// 20210 with the weight 19.
 fn running_of(query: &Query, seat: Seat<M61, CAP>) -> Option<Running>
     ensures keeps { IfSome result (λ running. IsTrue (keeps query.now (numbers_of running))) }
     ensures block { IfSome result (λ running. block_of running ≡ seat) }
@@ -31,7 +32,20 @@ fn running_of(query: &Query, seat: Seat<M61, CAP>) -> Option<Running>
             Some(Running::Point(Point::of(seat, (1 << 61) - 4)))
         }
         Query::Heavy { .. } => Some(Running::AugRoot(AugRoot::of(seat, 8739, 9))),
+        Query::Above { .. } => Some(Running::SplitRoot(SplitRoot {
+            seat,
+            hash: 20_210,
+            weight: 19,
+        })),
         _ => None,
+    }
+}
+
+// The version in which a question has a spelling.
+fn version_of(question: &Question) -> Version {
+    match question {
+        Question::Large(_) => Version::Two,
+        _ => Version::One,
     }
 }
 
@@ -42,7 +56,8 @@ pub(crate) fn begun(alloc: Global, question: Question) -> Result<Option<Question
     let Some(depth) = Depth::new(2) else {
         return Ok(None);
     };
-    if !question.can_pose(Version::One, depth) {
+    let version = version_of(&question);
+    if !question.can_pose(version, depth) {
         return Ok(None);
     }
     let Some(seat) = Seat::of(&[M61::of(2), M61::of(10)]) else {
@@ -51,7 +66,7 @@ pub(crate) fn begun(alloc: Global, question: Question) -> Result<Option<Question
     let Some(running) = running_of(&question.query_like(), seat) else {
         return Ok(None);
     };
-    Ok(Some(QuestionAsking::begin(alloc, Version::One, depth, question, running)?))
+    Ok(Some(QuestionAsking::begin(alloc, version, depth, question, running)?))
 }
 
 // Feeds bytes, and sends what is due whenever something is. Answers how many bytes were taken.

@@ -8,6 +8,9 @@ use sip_check_tests::frames::{
 };
 use sip_lookup::Lookup;
 use sip_moments::Moment;
+use sip_question_tests::large::{
+    ALL_MARKS, ASK_3, ASK_6, LARGE_3, LARGE_6, LARGE_20, MARKS, NO_NODES, NODE,
+};
 use sip_questions::Question;
 use sip_vector::{Query, Side};
 use sip_verifier::Unanswered;
@@ -151,6 +154,55 @@ const ANSWERED: &[KindRow] = &[
         comes: Comes::Line(b"index:1 0\n"),
         taken: 36,
         sent: &[&INDEX_1, &SUB_1_1, &REVEAL],
+    },
+];
+
+// Large entries are told by their values: none is, where only what was taken away is as large.
+const LARGE: &[KindRow] = &[
+    KindRow {
+        name: "large entries",
+        question: LARGE_3,
+        said: &[&ALL_MARKS, &NO_NODES, &MORE],
+        closes: false,
+        comes: Comes::Line(b"above:0:3 1:5 3:3\n"),
+        taken: 107,
+        sent: &[&ASK_3, &REVEAL],
+    },
+    KindRow {
+        name: "no large entry beside a large weight",
+        question: LARGE_6,
+        said: &[&MARKS, &NODE],
+        closes: true,
+        comes: Comes::Line(b"above:0:6 none\n"),
+        taken: 88,
+        sent: &[&ASK_6, &REVEAL],
+    },
+    KindRow {
+        name: "more than all together",
+        question: LARGE_20,
+        said: &[&MORE],
+        closes: false,
+        comes: Comes::Line(b"above:0:20 none\n"),
+        taken: 0,
+        sent: &[],
+    },
+    KindRow {
+        name: "leaves where marks are due",
+        question: LARGE_6,
+        said: &[&LEAVES],
+        closes: false,
+        comes: Comes::Rejected(0, Reason::BadKind),
+        taken: 3,
+        sent: &[&ASK_6],
+    },
+    KindRow {
+        name: "siblings where nodes are due",
+        question: LARGE_6,
+        said: &[&MARKS, &MORE],
+        closes: true,
+        comes: Comes::Rejected(1, Reason::BadKind),
+        taken: 59,
+        sent: &[&ASK_6, &REVEAL],
     },
 ];
 
@@ -321,6 +373,15 @@ impl Row for KindRow {
 #[test]
 fn each_kind_is_answered_in_any_pieces(rt: HostRuntime) -> Result<(), Fail> {
     for row in ANSWERED.iter() {
+        in_pieces(&rt, rt.alloc(), row)?;
+        cut_in_two(&rt, rt.alloc(), row)?;
+    }
+    Ok(())
+}
+
+#[test]
+fn large_entries_are_answered_by_their_marks(rt: HostRuntime) -> Result<(), Fail> {
+    for row in LARGE.iter() {
         in_pieces(&rt, rt.alloc(), row)?;
         cut_in_two(&rt, rt.alloc(), row)?;
     }

@@ -14,20 +14,24 @@ use Rattle.sip_wire.specs.Spelling.{fits}
 use Rattle.sip_wire.proofs.Asking.{query-fits}
 use Rattle.sip_subvec.specs.Protocol.{sub_asked, sub_protocol}
 use Rattle.sip_sums.specs.Protocol.{sum_asked, sum_protocol}
-use Rattle.sip_heavy.specs.Protocol.{heavy_asked, heavy_protocol}
-use Rattle.sip_verifier.specs.QuerySeats.{RunningNumbers, RunsOn, Seated, aug_root_is, point_is, points_are, root_is}
+use Rattle.sip_heavy.specs.Protocol.{above_asked, heavy_asked, heavy_protocol}
+use Rattle.sip_verifier.specs.QuerySeats.{RunningNumbers, RunsOn, Seated, aug_root_is, point_is, points_are, root_is, split_root_is}
 use Rattle.sip_verifier.proofs.SeatAsked.{heavy_protocol_is, inner_product, range_product, share_protocol_is, square_product, sub_protocol_is, sum_is_protocol}
+use Rattle.sip_above.specs.declared.large.Large.{Large}
+use Rattle.sip_above.specs.Questions.{query_of}
+use Rattle.sip_above.proofs.LargeAsked.{root_asks}
 use Rattle.sip_moments.specs.declared.moment.Moment.{Moment}
 use Rattle.sip_moments.proofs.AskFrames.{ask_fits}
 use Rattle.sip_steps.specs.declared.opening.Opening.{Opening}
 use Rattle.sip_steps.specs.declared.opening.Opening.TheVariants as openings
 use Rattle.sip_steps.specs.Openings.{CanOpen, IsOf, message_of, query_like, subject_at}
-use Rattle.sip_steps.specs.Posed.{IsOfMoment, IsOfQuery}
+use Rattle.sip_steps.specs.Posed.{IsOfLarge, IsOfMoment, IsOfQuery}
 
 -- what can be opened has a spelling
 pub opening_fits : (version : Version) (depth : ℕ) (o : Opening) → CanOpen version depth o → IsTrue (fits version (message_of o))
 opening_fits version depth (openings.Query query) can = query-fits version depth query can.1 can.0.1
 opening_fits version depth (openings.Moment moment) can = let most = can.most in ask_fits version moment (omega (arith, most))
+opening_fits version depth (openings.Large large) can = query-fits version depth (query_of large) can.1 can.0
 
 module _ (version : Version) (depth : ℕ) (o : Opening) (block : List ℕ) where
   -- the numbers of an opening are those of its query
@@ -88,6 +92,14 @@ module _ (version : Version) (depth : ℕ) (o : Opening) (block : List ℕ) wher
     query = queries.Share side num den;
     is = is;
     own = λ stream of. share_protocol_is version depth stream (seat (queries.Share side num den) (aug_root_is hash total)) block side num den at_least hash total refl least refl refl (of_query stream (queries.Share side num den) (aug_root_is hash total) is of);
+  }
+
+  pub large_kind : (large : Large) (hash weight : ℕ) → o ≡ openings.Large large
+      → IsOfLarge (subject_at version depth o block (split_root_is hash weight)) (heavy_protocol (above_asked version m61_modulus hash weight (length block) large.at_least))
+  large_kind large hash weight is = record {
+    large = large;
+    is = is;
+    own = λ stream of. ap heavy_protocol (root_asks version depth stream large block hash weight (subst (λ (x : Opening). RunsOn depth stream (query_like x) block (split_root_is hash weight)) is of));
   }
 
   pub moment_kind : (moment : Moment) (value extension : ℕ) → o ≡ openings.Moment moment → extension ≡ value

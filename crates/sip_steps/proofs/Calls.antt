@@ -2,48 +2,35 @@
 use Rattle.std.proofs.Common.{◌≡◌, ℕ, Result, Ok, Err, List, refl, sym, ap, subst, ◌∙◌}
 use Rattle.std.specs.Prelude.{OnErr, OnOk}
 use Rattle.sip_ports.specs.declared.port.TalkEvent.{TalkEvent}
-use Rattle.sip_vector.specs.declared.update.Side.{Side}
-use Rattle.sip_vector.specs.declared.update.Side.TheVariants.{First, Second}
-use Rattle.sip_wire.specs.Spelling.{side_number}
+use Rattle.sip_vector.specs.declared.update.Entry.{Entry}
+use Rattle.sip_replies.specs.Protocols.{Phase, Protocol}
 use Rattle.sip_verifier.specs.QuerySeats.{root_is}
 use Rattle.sip_questions.specs.declared.question.Question.TheVariants as questions
+use Rattle.sip_steps.specs.declared.asking.Asking.{Asking}
 use Rattle.sip_steps.specs.declared.looking.Looking.{Looking}
 use Rattle.sip_steps.specs.declared.opening.Opening.{Opening}
-use Rattle.sip_steps.specs.declared.opening.Opening.TheVariants as openings
 use Rattle.sip_steps.specs.declared.posing.Posing.{Posing}
 use Rattle.sip_steps.specs.declared.posing.Posing.TheVariants as kinds
 use Rattle.sip_steps.specs.declared.question.QuestionAsking.{QuestionAsking}
+use Rattle.sip_steps.specs.Asked.{IsAsked}
 use Rattle.sip_steps.specs.Looked.{AsksSame, HasLooked, IsLooked}
 use Rattle.sip_steps.specs.Openings.{Subject, message_of}
 use Rattle.sip_steps.specs.Posed as posed
-use Rattle.sip_steps.specs.Posed.{IsPosed, opening_at}
+use Rattle.sip_steps.specs.Posed.{IsPosed, IsTalk, opening_at}
 use Rattle.sip_steps.specs.Questioned.{About, HasBegun, IsAskedOf, IsOpened, IsSought, by_opening}
 
--- ---- what is asked by one message is known by it
-
-side_one : (a b : Side) → side_number a ≡ side_number b → a ≡ b
-side_one First First e = refl
-side_one First Second e = absurd cc
-side_one Second First e = absurd cc
-side_one Second Second e = refl
-
-message_one : (a b : Opening) → message_of a ≡ message_of b → a ≡ b
-message_one (openings.Query p) (openings.Query q) e =
-    let same : p ≡ q = cc in
-    ap openings.Query same
-message_one (openings.Query p) (openings.Moment n) e = absurd cc
-message_one (openings.Moment m) (openings.Query q) e = absurd cc
-message_one (openings.Moment m) (openings.Moment n) e =
-    let sides : side_number m.side ≡ side_number n.side = cc in
-    let degrees : m.degree ≡ n.degree = cc in
-    ap (λ (s : Side). openings.Moment (record { side = s; degree = m.degree })) (side_one m.side n.side sides)
-    ∙ ap (λ (d : ℕ). openings.Moment (record { side = n.side; degree = d })) degrees
+-- ---- what is asked by one message
 
 pub posed_opening : (s : Subject) (events : List TalkEvent) (p : Posing) → IsPosed s events p → opening_at p ≡ s.opening
-posed_opening s events (kinds.Entries a) is = message_one a.request s.opening is.1.asks
-posed_opening s events (kinds.Sum a) is = message_one a.request s.opening is.1.asks
-posed_opening s events (kinds.Heavy a) is = message_one a.request s.opening is.1.asks
-posed_opening s events (kinds.Moment a) is = message_one a.request s.opening is.2.asks
+posed_opening s events (kinds.Entries a) is = is.1.asks
+posed_opening s events (kinds.Sum a) is = is.1.asks
+posed_opening s events (kinds.Heavy a) is = is.1.asks
+posed_opening s events (kinds.Moment a) is = is.2.asks
+
+-- a talk goes on
+pub talks_on : {C S : Type 0} {P : Protocol S} {stands : S → C → List Entry → Type 0} {phase : C → Phase} {s : Subject} {before after : List TalkEvent} {old new : Asking C Opening} → IsTalk P stands phase s before old → new.request ≡ old.request
+    → IsAsked P stands phase message_of (message_of s.opening) s.block after new → IsTalk P stands phase s after new
+talks_on is same talk = record { asks = same ∙ is.asks; talk = talk }
 
 -- ---- behind a call
 

@@ -6,9 +6,9 @@ use Rattle.sip_ports.specs.declared.port.TalkEvent.TheVariants.{Ended}
 use Rattle.sip_ports.specs.Ports.{GoesOn, SendsWhole, ins, outs, written}
 use Rattle.sip_ports.proofs.TalkLemmas.{ins-append, written-append, written-ins, written-outs}
 use Rattle.sip_stream.specs.declared.form.Form.{Form}
+use Rattle.sip_vector.specs.declared.tally.Tally.{Tally}
 use Rattle.sip_vector.specs.declared.update.Update.{Update}
 use Rattle.sip_wire.specs.declared.kind.Place.TheVariants as places
-use Rattle.sip_wire.specs.declared.message.Held.{Held}
 use Rattle.sip_wire.specs.declared.message.Message.TheVariants as messages
 use Rattle.sip_wire.specs.declared.version.Version.{Version}
 use Rattle.sip_wire.specs.declared.version.Version.TheVariants.{One}
@@ -21,15 +21,15 @@ use Rattle.sip_helper.specs.OneTurn.{StopsTurn}
 use Rattle.sip_helper.specs.Rules.{EndsAs, ServesOn}
 use Rattle.sip_helper.specs.inside.Measures.{most_turns}
 use Rattle.sip_helper.specs.Statuses.{status_of_stop}
-use Rattle.sip_helper.specs.Turns.{HelperState, version_opened}
+use Rattle.sip_helper.specs.Turns.{version_opened}
 use Rattle.sip_helper.specs.UnderWay.{UnderWay}
 use Rattle.sip_helper.proofs.Talks.{begins}
 use Rattle.sip_questions.specs.declared.recalling.Recalling.{Recalling}
 use Rattle.sip_questions.specs.declared.store_status.StoreStatus.{StoreStatus}
 use Rattle.sip_questions.specs.inside.Keeping.{questions_left}
 use Rattle.sip_questions.specs.Serving.{QuestionHelper, fresh_questions, question_rules}
-use Rattle.sip_questions.specs.StoreFronts.{HearsStore, Recalls, asked_for, held_frame, held_of, opening}
-use Rattle.sip_questions.specs.Stores.{awaiting, recall_rules, status_of, store_heard}
+use Rattle.sip_questions.specs.StoreFronts.{Recalls, asked_for, held_by, held_frame, opening}
+use Rattle.sip_questions.specs.Stores.{HearsStore, awaiting, recall_rules, status_of, store_heard}
 use Rattle.sip_questions.proofs.StoreTurns.{Recalled, opens, recalls}
 use Rattle.sip_steps.specs.declared.coming.Coming.{Coming}
 use Rattle.sip_steps.specs.Served.{Goes, IsComing}
@@ -78,7 +78,7 @@ module _ (form : Form) (events : List TalkEvent) (old put new : Coming) (sent : 
       none_sent put_got sent (opening opened.number opened.depth) opened.talk
 
   pub opening_end : (how : HelpStatus) → StopsTurn question_rules (Some []) (Some (ins put_got ++ outs sent)) fresh_questions put.offset how → EndsBy form None (ins put_got ++ outs sent) (status_of how)
-  opening_end how stop store = inl (record {
+  opening_end how stop again store = inl (record {
     how = how;
     same = refl;
     unread = refl;
@@ -86,7 +86,7 @@ module _ (form : Form) (events : List TalkEvent) (old put new : Coming) (sent : 
   })
 
 pub opening_closed : (form : Form) (events : List TalkEvent) (core : QuestionHelper) (old : Coming) → AwaitsOpening form events core old → EndsBy form None (events ++ Ended ∷ []) (status_of PeerClosed)
-opening_closed form events core old so store =
+opening_closed form events core old so again store =
     let put_got = frame_bytes old.frame in
     let stop = stops_closed question_rules fresh_questions 0 put_got so.part.short in
     inl (record {
@@ -107,7 +107,7 @@ module _ (form : Form) (events : List TalkEvent) (core : QuestionHelper) (old : 
 
   -- the talk ended with the second message
   recall_stops : (at : ℕ) (rest all : List TalkEvent) (how : HelpStatus) → at ≡ old.offset → StopsTurn recall_rules (Some []) (Some rest) (awaiting version) at how → all ≡ first_frame ++ rest → EndsBy form None all (status_of how)
-  recall_stops at rest all how same stop is store = inl (record {
+  recall_stops at rest all how same stop is again store = inl (record {
     how = how;
     same = refl;
     unread = refl;
@@ -175,7 +175,7 @@ asked_short r =
     omega (arith, one, two, length-append (opening r.number r.depth) (spelling (version_opened r.number) (messages.Recall r.count)))
 
 -- and few turns are left
-heard_few : (number depth : ℕ) (us : List Update) → questions_left (store_heard number depth us) ≤ most_turns
+heard_few : (number depth : ℕ) (us : List Update) → questions_left (store_heard number depth us None) ≤ most_turns
 heard_few number depth us = omega arith
 
 module _ (form : Form) (r : Recalls) (store left : Option (List ℕ)) (core : QuestionHelper) (sent : List ℕ) (before : List TalkEvent) (talk : before ≡ ins (asked_for r)) where
@@ -183,14 +183,14 @@ module _ (form : Form) (r : Recalls) (store left : Option (List ℕ)) (core : Qu
   read = record { store = store; left = left }
 
   unheard_then : (status : StoreStatus) → HearsNone r form store left core sent status → EndsBy form (Some read) (before ++ outs sent) status
-  unheard_then status so = inr (inl (record {
+  unheard_then status so again = inr (inl (record {
     recalls = r;
     talk = ap (λ (l : List ℕ). before ++ outs l) so.silent ∙ append-nil before ∙ talk;
     why = so.why;
   }))
 
   cut_then : (status : StoreStatus) → CutsHeld r form store left core sent status → EndsBy form (Some read) (before ++ outs sent) status
-  cut_then status so = inr (inr (inl (record {
+  cut_then status so again = inr (inr (inl (record {
     recalls = r;
     us = so.us;
     hears = so.hears;
@@ -208,7 +208,7 @@ module _ (form : Form) (r : Recalls) (store left : Option (List ℕ)) (core : Qu
 
   pub held_then : (new : Coming) → TellsHeld r form store left core sent → new.offset ≡ length (asked_for r) → frame_bytes new.frame ≡ [] → new.lacking ≡ 0 → AnswersBy form (before ++ outs sent) core new read
   held_then new so at none unknown =
-      let heard = store_heard r.number r.depth so.us in
+      let heard = store_heard r.number r.depth so.us None in
       let start = ins (asked_for r) ++ outs (held_frame r so.us) in
       let all : before ++ outs sent ≡ start = ap (λ (e : List TalkEvent). e ++ outs sent) talk ∙ ap (λ (l : List ℕ). ins (asked_for r) ++ outs l) so.whole in
       record {
@@ -228,8 +228,8 @@ module _ (form : Form) (r : Recalls) (store left : Option (List ℕ)) (core : Qu
 
 -- the status of what is answered is that of the talk
 pub answers_end : (form : Form) (known : StoreRead) (events all : List TalkEvent) (core : QuestionHelper) (old : Coming) (so : AnswersBy form events core old known) (how : HelpStatus)
-    → ServesOn question_rules (store_heard so.recalls.number so.recalls.depth so.us) (length (asked_for so.recalls)) (Some (ins (asked_for so.recalls) ++ outs (held_frame so.recalls so.us))) (Some all) how → EndsBy form (Some known) all (status_of how)
-answers_end form known events all core old so how serves = inr (inr (inr (record {
+    → ServesOn question_rules (store_heard so.recalls.number so.recalls.depth so.us None) (length (asked_for so.recalls)) (Some (ins (asked_for so.recalls) ++ outs (held_frame so.recalls so.us))) (Some all) how → EndsBy form (Some known) all (status_of how)
+answers_end form known events all core old so how serves again = inr (inr (inr (record {
   recalls = so.recalls;
   us = so.us;
   hears = so.hears;
@@ -237,27 +237,27 @@ answers_end form known events all core old so how serves = inr (inr (inr (record
   talk = refl;
   how = how;
   same = refl;
-  serves = serves;
+  serves = record { more = None; reread = tt; serves = serves };
 })))
 
 -- ---- what the records come to
 
-module _ (r : Recalls) (form : Form) (store left : Option (List ℕ)) (stream : HelperState) (held : Held) (hears : HearsStore r form store left stream (Ok held)) (old new : Option (List TalkEvent)) where
-  held_spelled : spelling stream.version (messages.Held held) ≡ held_frame r hears.0
+module _ (r : Recalls) (form : Form) (store left : Option (List ℕ)) (core : QuestionHelper) (told : Tally) (hears : HearsStore r form store left core (Ok told)) (version : Version) (spoken : version ≡ core.helper.version) (old new : Option (List TalkEvent)) where
+  held_spelled : spelling version (messages.Held (held_by told)) ≡ held_frame r hears.0
   held_spelled =
-      ap (λ (h : Held). spelling stream.version (messages.Held h)) hears.3
-      ∙ ap (λ (s : HelperState). spelling s.version (messages.Held (held_of hears.0))) hears.2
+      ap (λ (v : Version). spelling v (messages.Held (held_by told))) (spoken ∙ ap (λ (q : QuestionHelper). q.helper.version) hears.2)
+      ∙ ap (λ (t : Tally). spelling (version_opened r.number) (messages.Held (held_by t))) hears.3
 
   -- it was said
-  pub tells_all : (core : QuestionHelper) → GoesOn old new (outs (spelling stream.version (messages.Held held))) → core ≡ record fresh_questions { helper = stream } → (sent : List ℕ) × GoesOn old new (outs sent) × TellsHeld r form store left core sent
-  tells_all core went behind = (
+  pub tells_all : GoesOn old new (outs (spelling version (messages.Held (held_by told)))) → (sent : List ℕ) × GoesOn old new (outs sent) × TellsHeld r form store left core sent
+  tells_all went = (
     held_frame r hears.0,
     subst (λ (l : List ℕ). GoesOn old new (outs l)) held_spelled went,
-    record { us = hears.0; hears = hears.1; state = behind ∙ ap (λ (s : HelperState). record fresh_questions { helper = s }) hears.2; whole = refl },
+    record { us = hears.0; hears = hears.1; state = hears.2; whole = refl },
   )
 
   -- it was cut short
-  pub tells_cut : (core : QuestionHelper) (stop : PortStop) → SendsWhole {T = Unit {0}} old new (Err stop) (spelling stream.version (messages.Held held)) → (sent : List ℕ) × GoesOn old new (outs sent) × CutsHeld r form store left core sent (status_of (status_of_stop stop))
-  tells_cut core stop went =
+  pub tells_cut : (stop : PortStop) → SendsWhole {T = Unit {0}} old new (Err stop) (spelling version (messages.Held (held_by told))) → (sent : List ℕ) × GoesOn old new (outs sent) × CutsHeld r form store left core sent (status_of (status_of_stop stop))
+  tells_cut stop went =
       let cut = subst (λ (l : List ℕ). SendsWhole {T = Unit {0}} old new (Err stop) l) held_spelled went in
       (take cut.0 (held_frame r hears.0), cut.2, record { us = hears.0; hears = hears.1; stop = stop; same = refl; count = cut.0; short = cut.1; front = refl })

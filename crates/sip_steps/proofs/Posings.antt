@@ -1,5 +1,5 @@
 -- What a question that is posed without a link comes to is what one over a link comes to.
-use Rattle.std.proofs.Common.{◌≡◌, ℕ, zero, suc, ◌++◌, true, None, Some, Option, Result, Ok, Err, List, [], ◌∷◌, length, take, min, refl, sym, ap, subst, ◌∙◌, inr, arith, length-append}
+use Rattle.std.proofs.Common.{◌≡◌, ℕ, zero, suc, ◌++◌, true, None, Some, Option, Result, Ok, Err, List, [], ◌∷◌, length, take, min, refl, sym, ap, subst, ◌∙◌, inl, inr, arith, length-append}
 use Rattle.std.specs.Prelude.{IfOk}
 use Rattle.sip_field.specs.Moduli.{m61_modulus}
 use Rattle.sip_ports.specs.declared.port.TalkEvent.{TalkEvent}
@@ -25,6 +25,14 @@ use Rattle.sip_verifier.specs.Asking as queries
 use Rattle.sip_verifier.specs.inside.Judging.{found_in, verdict_of}
 use Rattle.sip_verifier.specs.Questions.{IsDue}
 use Rattle.sip_verifier.proofs.QueryAsked.{asks}
+use Rattle.sip_heavy.specs.Asking.{HeavyStands, phase_of as heavy_phase}
+use Rattle.sip_heavy.specs.Counting.{above_over}
+use Rattle.sip_heavy.specs.Protocol.{HeavyAsked, HeavyState, heavy_protocol}
+use Rattle.sip_verifier.specs.runs.Askers.{Asks}
+use Rattle.sip_above.specs.inside.Judging.{verdict_of as large_verdict}
+use Rattle.sip_above.specs.Manner.{asking, values_of, weights_of}
+use Rattle.sip_above.specs.Questions.{ask_of}
+use Rattle.sip_above.proofs.LargeAsked.{asks_so as large_asks}
 use Rattle.sip_moments.specs.declared.moment.Moment.{Moment}
 use Rattle.sip_moments.specs.AcceptsMoment.{power_at}
 use Rattle.sip_moments.specs.Asking.{MomentStands, phase_of}
@@ -38,7 +46,7 @@ use Rattle.sip_steps.specs.declared.posing.Posing.{Posing}
 use Rattle.sip_steps.specs.declared.posing.Posing.TheVariants as kinds
 use Rattle.sip_steps.specs.Asked.{pairs_of}
 use Rattle.sip_steps.specs.Openings.{IsOf, Subject, message_of}
-use Rattle.sip_steps.specs.Posed.{ComesOf, HasBegun, IsOfMoment, IsOfQuery, IsPosed, IsTalk, WaitsFor, asked_at, pairs_at, stage_at}
+use Rattle.sip_steps.specs.Posed.{ComesOf, HasBegun, IsOfLarge, IsOfMoment, IsOfQuery, IsPosed, IsTalk, WaitsFor, asked_at, pairs_at, stage_at}
 
 -- what is posed has begun
 pub has_begun : {E : Type 0} (s : Subject) (result : Result Posing E) → IfOk result (IsPosed s []) → IfOk result HasBegun
@@ -106,7 +114,7 @@ module _ {C S : Type 0} (P : Protocol S) (stands : S → C → List Entry → Ty
 
   means : Means P (messages.Query kind.query) s.block events places stage
   means = subst (λ (o : Opening). Means P (message_of o) s.block events places stage) kind.is
-      (Means-fed P (message_of s.opening) s.block (λ x. stands x a.check places) places a.turn (frame_bytes a.frame) events talk.fed)
+      (Means-fed P (message_of s.opening) s.block (λ x. stands x a.check places) places a.turn (frame_bytes a.frame) events talk.talk.fed)
 
   pub query_comes : ComesOf s stream events (pairs_of stage places) (asked_at stage) s.opening
   query_comes =
@@ -142,7 +150,7 @@ module _ (s : Subject) (stream : List Update) (events : List TalkEvent) (a : Ask
 
   moment_means : Means (by_power power) (message_of (openings.Moment moment)) s.block events held at
   moment_means = subst (λ (o : Opening). Means (by_power power) (message_of o) s.block events held at) kind.is
-      (Means-fed (by_power power) (message_of s.opening) s.block (λ x. MomentStands (moment_asked s.version m61_modulus moment.degree power) x a.check held) held a.turn (frame_bytes a.frame) events talk.fed)
+      (Means-fed (by_power power) (message_of s.opening) s.block (λ x. MomentStands (moment_asked s.version m61_modulus moment.degree power) x a.check held) held a.turn (frame_bytes a.frame) events talk.talk.fed)
 
   abbrev own : Protocol MomentState
   own = by_power (power_at m61_modulus moment.degree (numbers_of s.depth stream moment) s.block)
@@ -164,16 +172,52 @@ module _ (s : Subject) (stream : List Update) (events : List TalkEvent) (a : Ask
         waits = is_due own (message_of (openings.Moment moment)) s.block events held w;
       })
 
+-- ---- large entries
+
+module _ (asked : HeavyAsked) (s : Subject) (stream : List Update) (events : List TalkEvent) (a : Asking _ Opening) (talk : IsTalk (heavy_protocol asked) (HeavyStands asked) heavy_phase s events a)
+    (kind : IsOfLarge s (heavy_protocol asked)) (of : IsOf s stream) where
+  abbrev by_tree : Protocol HeavyState
+  by_tree = above_over s.version m61_modulus s.depth kind.large.at_least (values_of s.depth stream kind.large) (weights_of s.depth stream kind.large) s.block
+
+  abbrev kept : List Entry
+  kept = a.places.items
+
+  abbrev now : Stage
+  now = a.turn.stage
+
+  large_means : Means by_tree (ask_of kind.large) s.block events kept now
+  large_means =
+      subst (λ (P : Protocol HeavyState). Means P (ask_of kind.large) s.block events kept now) (kind.own stream of)
+      (subst (λ (o : Opening). Means (heavy_protocol asked) (message_of o) s.block events kept now) kind.is
+      (Means-fed (heavy_protocol asked) (message_of s.opening) s.block (λ x. HeavyStands asked x a.check kept) kept a.turn (frame_bytes a.frame) events talk.talk.fed))
+
+  pub large_comes : ComesOf s stream events (pairs_of now kept) (asked_at now) s.opening
+  large_comes =
+      let all = large_asks s.version s.depth stream kind.large s.block (Some []) (Some events) None None kept (asked_at now) (answers by_tree (ask_of kind.large) s.block events kept now large_means) in
+      subst (λ (o : Opening). ComesOf s stream events (pairs_of now kept) (asked_at now) o) (sym kind.is)
+      (subst (λ (es : List Entry). Asks (asking s.version s.depth stream) (kind.large, s.block) (Some []) (Some events) (λ (_ : Unit {0}) (answer : List Entry). es ≡ answer) (large_verdict (asked_at now))) (shown now kept) all)
+
+  pub large_waits : is_hearing now ≡ true → WaitsFor s stream events s.opening
+  large_waits hears =
+      let w = hears_at by_tree (ask_of kind.large) s.block events kept now hears large_means in
+      let due = is_due by_tree (ask_of kind.large) s.block events kept w in
+      let replies = so_far by_tree (ask_of kind.large) s.block events kept w in
+      subst (λ (o : Opening). WaitsFor s stream events o) (sym kind.is) (record {
+        replies = replies;
+        talk = w.talk ∙ ap (λ (u : Option Answer). asked_unless u s.version (ask_of kind.large) s.block replies) (sym due.0);
+        waits = due;
+      })
+
 -- ---- each kind
 
 pub comes : (s : Subject) (stream : List Update) (events : List TalkEvent) (p : Posing) → IsOf s stream → IsPosed s events p → ComesOf s stream events (pairs_at p) (asked_at (stage_at p)) s.opening
 comes s stream events (kinds.Entries a) of is = query_comes _ _ _ s stream events a is.1 is.2 of
 comes s stream events (kinds.Sum a) of is = query_comes _ _ _ s stream events a is.1 is.2 of
-comes s stream events (kinds.Heavy a) of is = query_comes _ _ _ s stream events a is.1 is.2 of
+comes s stream events (kinds.Heavy a) of is = elim is.2 [ inl query ↦ query_comes _ _ _ s stream events a is.1 query of | inr large ↦ large_comes is.0 s stream events a is.1 large of ]
 comes s stream events (kinds.Moment a) of is = moment_comes s stream events a is.0 is.1 is.2 is.3 of
 
 pub waits_for : (s : Subject) (stream : List Update) (events : List TalkEvent) (p : Posing) → IsOf s stream → IsPosed s events p → is_hearing (stage_at p) ≡ true → WaitsFor s stream events s.opening
-waits_for s stream events (kinds.Entries a) of is = query_waits _ _ _ s stream events a is.1 is.2 of
-waits_for s stream events (kinds.Sum a) of is = query_waits _ _ _ s stream events a is.1 is.2 of
-waits_for s stream events (kinds.Heavy a) of is = query_waits _ _ _ s stream events a is.1 is.2 of
-waits_for s stream events (kinds.Moment a) of is = moment_waits s stream events a is.0 is.1 is.2 is.3 of
+waits_for s stream events (kinds.Entries a) of is hears = query_waits _ _ _ s stream events a is.1 is.2 of hears
+waits_for s stream events (kinds.Sum a) of is hears = query_waits _ _ _ s stream events a is.1 is.2 of hears
+waits_for s stream events (kinds.Heavy a) of is hears = elim is.2 [ inl query ↦ query_waits _ _ _ s stream events a is.1 query of hears | inr large ↦ large_waits is.0 s stream events a is.1 large of hears ]
+waits_for s stream events (kinds.Moment a) of is hears = moment_waits s stream events a is.0 is.1 is.2 is.3 of hears

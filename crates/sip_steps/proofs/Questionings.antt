@@ -13,12 +13,14 @@ use Rattle.sip_lookup.specs.declared.answer.LookAnswer.{LookAnswer}
 use Rattle.sip_lookup.specs.declared.lookup.Lookup.{Lookup}
 use Rattle.sip_lookup.specs.Lookups.{Looked}
 use Rattle.sip_lookup.specs.Sittings.{looked_of}
+use Rattle.sip_above.specs.declared.large.Large.{Large}
+use Rattle.sip_above.specs.inside.Judging as large_sittings
 use Rattle.sip_moments.specs.declared.moment.Moment.{Moment}
 use Rattle.sip_questions.specs.declared.asker.QuestionGiven.{QuestionGiven}
 use Rattle.sip_questions.specs.declared.question.Question.{Question}
 use Rattle.sip_questions.specs.declared.question.Question.TheVariants as questions
-use Rattle.sip_questions.specs.Questions.{Answered, asking, by_lookup, by_moment, by_query, to_lookup, to_moment, to_query}
-use Rattle.sip_questions.proofs.ByKind.{IsLike, interrupted_as, lookup_given, lookup_like, moment_given as moment_stated, moment_like, query_came, query_like, stopped_as}
+use Rattle.sip_questions.specs.Questions.{Answered, asking, by_large, by_lookup, by_moment, by_query, to_large, to_lookup, to_moment, to_query}
+use Rattle.sip_questions.proofs.ByKind.{IsLike, interrupted_as, large_given as large_stated, large_like, lookup_given, lookup_like, moment_given as moment_stated, moment_like, query_came, query_like, stopped_as}
 use Rattle.sip_questions.specs.Sittings.{query_like as like_question, stated}
 use Rattle.sip_replies.specs.declared.asking.AskStop.{AskStop}
 use Rattle.sip_replies.specs.declared.check.Said.{Said}
@@ -41,7 +43,7 @@ use Rattle.sip_steps.specs.Openings as opened
 use Rattle.sip_steps.specs.Posed.{ComesOf, Waits, WaitsFor, asked_at, pairs_at, stage_at}
 use Rattle.sip_steps.specs.declared.question.QuestionAsking.{QuestionAsking}
 use Rattle.sip_steps.specs.declared.question.QuestionAsking.TheVariants as askings
-use Rattle.sip_steps.specs.Questioned.{About, ComesTo, IsAskedOf, IsOf, IsOpened, IsSought, by_opening, given_of, is_hearing_at, look_given, moment_given, question_by}
+use Rattle.sip_steps.specs.Questioned.{About, ComesTo, IsAskedOf, IsOf, IsOpened, IsSought, by_opening, given_of, is_hearing_at, large_given, look_given, moment_given, question_by}
 use Rattle.sip_steps.proofs.Lookings.{look_said, look_waits}
 use Rattle.sip_steps.proofs.Awaiting.{look_due}
 use Rattle.sip_steps.proofs.Posings.{comes, waits_for}
@@ -52,6 +54,7 @@ use Rattle.sip_steps.proofs.Posings.{comes, waits_for}
 like_same : (opening : Opening) → like_question (question_by opening) ≡ opened.query_like opening
 like_same (openings.Query query) = refl
 like_same (openings.Moment moment) = refl
+like_same (openings.Large large) = refl
 
 module _ (q : About) (stream : List Update) (events : List TalkEvent) (entries : List Entry) where
   abbrev n : Manner Question Answered
@@ -66,9 +69,16 @@ module _ (q : About) (stream : List Update) (events : List TalkEvent) (entries :
       stopped_as (by_moment q.version q.depth stream) n moment (questions.Moment moment) q.block to_moment (moment_like q.version q.depth stream q.block moment) (Some []) (Some events)
       (λ (value said : ℤ). value ≡ said) (λ (given : QuestionGiven) (answer : Answered). stated entries given ≡ (questions.Moment moment, answer)) why x
 
+  large_came : (large : Large) (r : Result (Unit {0}) Unanswered) → Asks (by_large q.version q.depth stream) (large, q.block) (Some []) (Some events) (λ (_ : Unit {0}) (answer : List Entry). entries ≡ answer) r → Came (openings.Large large) (large_given large r)
+  large_came large (Ok t) x = large_stated q.version q.depth stream q.block (Some []) (Some events) entries large x
+  large_came large (Err why) x =
+      stopped_as (by_large q.version q.depth stream) n large (questions.Large large) q.block to_large (large_like q.version q.depth stream q.block large) (Some []) (Some events)
+      (λ (_ : Unit {0}) (answer : List Entry). entries ≡ answer) (λ (given : QuestionGiven) (answer : Answered). stated entries given ≡ (questions.Large large, answer)) why x
+
   opening_came : (opening : Opening) (r : Result Said AskStop) → ComesOf (by_opening q opening) stream events entries r opening → Came opening (given_of opening r)
   opening_came (openings.Query query) r x = query_came q.version q.depth stream q.block (Some []) (Some events) entries query (judging.verdict_of r) x
   opening_came (openings.Moment moment) r x = moment_came moment (moment_sittings.verdict_of r) x
+  opening_came (openings.Large large) r x = large_came large (large_sittings.verdict_of r) x
 
   lookup_came : (lookup : Lookup) (r : Result LookAnswer Unanswered) → Asks (by_lookup q.version q.depth stream) (lookup, q.block) (Some []) (Some events) (λ (given : LookAnswer) (looked : Looked). looked_of given ≡ looked) r
       → Asks n (questions.Lookup lookup, q.block) (Some []) (Some events) (λ given answer. stated entries given ≡ (questions.Lookup lookup, answer)) (look_given lookup r)
@@ -86,6 +96,9 @@ open_asks q stream events entries (openings.Query query) (stages.Reveals challen
 open_asks q stream events entries (openings.Moment moment) stages.Asks none x = x
 open_asks q stream events entries (openings.Moment moment) stages.Hears none x = x
 open_asks q stream events entries (openings.Moment moment) (stages.Reveals challenge) none x = x
+open_asks q stream events entries (openings.Large large) stages.Asks none x = x
+open_asks q stream events entries (openings.Large large) stages.Hears none x = x
+open_asks q stream events entries (openings.Large large) (stages.Reveals challenge) none x = x
 open_asks q stream events entries opening (stages.Said said) none x = absurd cc
 open_asks q stream events entries opening (stages.Rejected round reason) none x = absurd cc
 
@@ -154,6 +167,7 @@ module _ (q : About) (stream : List Update) (events : List TalkEvent) (of : IsOf
   opening_due : (o : Opening) → WaitsFor (by_opening q o) stream events o → Due (question_by o)
   opening_due (openings.Query query) w = waits_as (by_query q.version q.depth stream) (asking q.version q.depth stream) query (questions.Query query) q.block to_query (query_like q.version q.depth stream q.block query) events w
   opening_due (openings.Moment moment) w = waits_as (by_moment q.version q.depth stream) (asking q.version q.depth stream) moment (questions.Moment moment) q.block to_moment (moment_like q.version q.depth stream q.block moment) events w
+  opening_due (openings.Large large) w = waits_as (by_large q.version q.depth stream) (asking q.version q.depth stream) large (questions.Large large) q.block to_large (large_like q.version q.depth stream q.block large) events w
 
   pub question_due : (a : QuestionAsking) → IsAskedOf q events a → is_hearing_at a ≡ true → Due q.question
   question_due (askings.Posed p) is hears =

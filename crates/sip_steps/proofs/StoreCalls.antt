@@ -196,7 +196,7 @@ module _ (form : Form) (events : List TalkEvent) (core : QuestionHelper) (was : 
   ready (Some read) Answering not so = record {
     live = so.goes.live;
     going = so.goes.turns.going;
-    few = offset_few question_rules questions_left (store_heard so.recalls.number so.recalls.depth so.us) core (ins (asked_for so.recalls) ++ outs (held_frame so.recalls so.us)) so.goes.before (length (asked_for so.recalls)) was.offset was.offset so.goes.turns refl (asked_short so.recalls);
+    few = offset_few question_rules questions_left (store_heard so.recalls.number so.recalls.depth so.us None) core (ins (asked_for so.recalls) ++ outs (held_frame so.recalls so.us)) so.goes.before (length (asked_for so.recalls)) was.offset was.offset so.goes.turns refl (asked_short so.recalls);
   }
 
   -- the part of a frame that is there can be added to
@@ -217,7 +217,7 @@ module _ (form : Form) (events : List TalkEvent) (core : QuestionHelper) (was : 
   closed_at (Some read) Recalling so = absurd so
   closed_at (Some read) Answering so =
       answers_end form read events (events ++ Ended ∷ []) core was so helps.PeerClosed
-      (closed_then question_rules questions_left answers_still (store_heard so.recalls.number so.recalls.depth so.us) (length (asked_for so.recalls)) (ins (asked_for so.recalls) ++ outs (held_frame so.recalls so.us)) events core was so.goes)
+      (closed_then question_rules questions_left answers_still (store_heard so.recalls.number so.recalls.depth so.us None) (length (asked_for so.recalls)) (ins (asked_for so.recalls) ++ outs (held_frame so.recalls so.us)) events core was so.goes)
 
   module _ (put new : Coming) (sent : List ℕ) (next : QuestionHelper) (same : put.offset ≡ was.offset) where
     abbrev got : List ℕ
@@ -241,7 +241,7 @@ module _ (form : Form) (events : List TalkEvent) (core : QuestionHelper) (was : 
     at_part (Some read) Answering not so came = record {
       before = so.goes.before;
       last = so.goes.part.last;
-      after = record { recalls = so.recalls; us = so.us; hears = so.hears; goes = went question_rules questions_left answers_still (store_heard so.recalls.number so.recalls.depth so.us) (length (asked_for so.recalls)) (ins (asked_for so.recalls) ++ outs (held_frame so.recalls so.us)) events core was so.goes put new next sent same Part came };
+      after = record { recalls = so.recalls; us = so.us; hears = so.hears; goes = went question_rules questions_left answers_still (store_heard so.recalls.number so.recalls.depth so.us None) (length (asked_for so.recalls)) (ins (asked_for so.recalls) ++ outs (held_frame so.recalls so.us)) events core was so.goes put new next sent same Part came };
     }
 
     pub at_turn : (read : Option StoreRead) (stage : StoreStage) → stage ≢ Recalling → GoesAt form events core was read stage → ComesTurn question_rules questions_left answers_still core next sent put new → Behind (λ all. GoesAt form all next new read (stage_behind stage))
@@ -256,7 +256,7 @@ module _ (form : Form) (events : List TalkEvent) (core : QuestionHelper) (was : 
     at_turn (Some read) Answering not so came = record {
       before = so.goes.before;
       last = so.goes.part.last;
-      after = record { recalls = so.recalls; us = so.us; hears = so.hears; goes = went question_rules questions_left answers_still (store_heard so.recalls.number so.recalls.depth so.us) (length (asked_for so.recalls)) (ins (asked_for so.recalls) ++ outs (held_frame so.recalls so.us)) events core was so.goes put new next sent same Turn came };
+      after = record { recalls = so.recalls; us = so.us; hears = so.hears; goes = went question_rules questions_left answers_still (store_heard so.recalls.number so.recalls.depth so.us None) (length (asked_for so.recalls)) (ins (asked_for so.recalls) ++ outs (held_frame so.recalls so.us)) events core was so.goes put new next sent same Turn came };
     }
 
     -- to an opening nothing is sent
@@ -279,7 +279,7 @@ module _ (form : Form) (events : List TalkEvent) (core : QuestionHelper) (was : 
       before = so.goes.before;
       last = so.goes.part.last;
       after = answers_end form read events ((so.goes.before ++ ins got) ++ outs sent) core was so how
-          (went question_rules questions_left answers_still (store_heard so.recalls.number so.recalls.depth so.us) (length (asked_for so.recalls)) (ins (asked_for so.recalls) ++ outs (held_frame so.recalls so.us)) events core was so.goes put new next sent same (End how) stop);
+          (went question_rules questions_left answers_still (store_heard so.recalls.number so.recalls.depth so.us None) (length (asked_for so.recalls)) (ins (asked_for so.recalls) ++ outs (held_frame so.recalls so.us)) events core was so.goes put new next sent same (End how) stop);
     }
 
 -- ---- how many records are to be heard

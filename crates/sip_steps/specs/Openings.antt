@@ -11,6 +11,8 @@ use Rattle.sip_verifier.specs.declared.running.Running.{Running}
 use Rattle.sip_verifier.specs.QuerySeats.{RunningNumbers, RunsOn}
 use Rattle.sip_verifier.specs.Running.{block_of, numbers_of}
 use Rattle.sip_verifier.specs.Tasks.{CanBeAsked}
+use Rattle.sip_above.specs.Questions as larges
+use Rattle.sip_above.specs.Questions.{CanAskLarge, query_of}
 use Rattle.sip_moments.specs.Moments.{IsDegree}
 use Rattle.sip_moments.specs.Questions.{ask_of}
 use Rattle.sip_steps.specs.declared.opening.Opening.{Opening}
@@ -20,11 +22,14 @@ use Rattle.sip_steps.specs.declared.opening.Opening.TheVariants as openings
 abbrev pub message_of : Opening → Message
 message_of (openings.Query query) = messages.Query query
 message_of (openings.Moment moment) = ask_of moment
+message_of (openings.Large large) = larges.ask_of large
 
--- the query whose running numbers it is judged by: a second moment's, where it is a moment
+-- the query whose running numbers it is judged by: a second moment's, where it is a moment, and its
+-- own, where large entries are asked for
 abbrev pub query_like : Opening → Query
 query_like (openings.Query query) = query
 query_like (openings.Moment moment) = F2 moment.side
+query_like (openings.Large large) = query_of large
 
 -- what is asked at a depth in a version, at these challenges, and by these numbers of a stream
 pub record Subject : Type 0 where
@@ -55,3 +60,4 @@ IsOf s stream = RunsOn s.depth stream (query_like s.opening) s.block s.running
 abbrev pub CanOpen : Version → ℕ → Opening → Type 0
 CanOpen version depth (openings.Query query) = CanBeAsked depth query × Speaks version depth query
 CanOpen version depth (openings.Moment moment) = IsDegree moment.degree
+CanOpen version depth (openings.Large large) = CanAskLarge version depth large

@@ -1,5 +1,5 @@
 -- A question that is asked without a link, whatever its kind: what its bytes so far are a talk of.
-use Rattle.std.specs.Prelude.{◌≡◌, ℕ, List, [], Some, Result, Ok, Err}
+use Rattle.std.specs.Prelude.{◌≡◌, ◌⊎◌, ℕ, List, [], Some, Result, Ok, Err}
 use Rattle.sip_field.specs.Moduli.{m61_modulus}
 use Rattle.sip_ports.specs.declared.port.TalkEvent.{TalkEvent}
 use Rattle.sip_vector.specs.declared.query.Query.{Query}
@@ -16,7 +16,8 @@ use Rattle.sip_subvec.specs.Protocol.{SubAsked, sub_protocol}
 use Rattle.sip_sums.specs.Asking as sums
 use Rattle.sip_sums.specs.Protocol.{SumAsked, sum_protocol}
 use Rattle.sip_heavy.specs.Asking as heavies
-use Rattle.sip_heavy.specs.Protocol.{HeavyAsked, heavy_protocol}
+use Rattle.sip_heavy.specs.Counting.{above_over}
+use Rattle.sip_heavy.specs.Protocol.{HeavyAsked, HeavyState, heavy_protocol}
 use Rattle.sip_verifier.specs.Asking as queries
 use Rattle.sip_verifier.specs.inside.Judging.{verdict_of}
 use Rattle.sip_verifier.specs.inside.Protocols.{IsProtocol}
@@ -24,6 +25,10 @@ use Rattle.sip_verifier.specs.Questions as query_manner
 use Rattle.sip_verifier.specs.runs.Askers.{Asks}
 use Rattle.sip_verifier.specs.runs.Asking.{question_of}
 use Rattle.sip_verifier.specs.runs.Manners.{Manner}
+use Rattle.sip_above.specs.declared.large.Large.{Large}
+use Rattle.sip_above.specs.Manner as large_manner
+use Rattle.sip_above.specs.Manner.{values_of, weights_of}
+use Rattle.sip_above.specs.inside.Judging as large_sittings
 use Rattle.sip_moments.specs.declared.moment.Moment.{Moment}
 use Rattle.sip_moments.specs.AcceptsMoment.{power_at}
 use Rattle.sip_moments.specs.Asking as moments
@@ -72,10 +77,11 @@ pairs_at (kinds.Moment a) = pairs_of a.turn.stage a.places.items
 -- ---- the talk so far
 
 -- the events are a talk of the subject by a protocol, as far as it is
-abbrev pub IsTalk : {C S : Type 0} → Protocol S → (S → C → List Entry → Type 0) → (C → Phase)
-    → Subject → List TalkEvent → Asking C Opening → Type 0
-IsTalk P stands phase s events a =
-    IsAsked P stands phase message_of (message_of s.opening) s.block events a
+pub record IsTalk {C S : Type 0} (P : Protocol S) (stands : S → C → List Entry → Type 0)
+    (phase : C → Phase) (s : Subject) (events : List TalkEvent) (a : Asking C Opening) : Type 0
+  where
+    pub asks : a.request ≡ s.opening
+    pub talk : IsAsked P stands phase message_of (message_of s.opening) s.block events a
 
 -- a query is asked, and this is its protocol for each stream whose numbers these are
 pub record IsOfQuery {S : Type 0} (s : Subject) (P : Protocol S) : Type 0 where
@@ -83,6 +89,14 @@ pub record IsOfQuery {S : Type 0} (s : Subject) (P : Protocol S) : Type 0 where
   pub is : s.opening ≡ openings.Query query
   pub own : (stream : List Update) → IsOf s stream
       → IsProtocol s.version s.depth stream query s.block P
+
+-- large entries are asked for, and this is their protocol for each such stream
+pub record IsOfLarge (s : Subject) (P : Protocol HeavyState) : Type 0 where
+  pub large : Large
+  pub is : s.opening ≡ openings.Large large
+  pub own : (stream : List Update) → IsOf s stream
+      → P ≡ above_over s.version m61_modulus s.depth large.at_least
+      (values_of s.depth stream large) (weights_of s.depth stream large) s.block
 
 -- this moment is asked, and this is the power of the extension of each such stream
 pub record IsOfMoment (s : Subject) (moment : Moment) (power : ℕ) : Type 0 where
@@ -101,7 +115,7 @@ IsPosed s events (kinds.Sum a) = (asked : SumAsked)
     × IsOfQuery s (sum_protocol asked)
 IsPosed s events (kinds.Heavy a) = (asked : HeavyAsked)
     × IsTalk (heavy_protocol asked) (heavies.HeavyStands asked) heavies.phase_of s events a
-    × IsOfQuery s (heavy_protocol asked)
+    × (IsOfQuery s (heavy_protocol asked) ⊎ IsOfLarge s (heavy_protocol asked))
 IsPosed s events (kinds.Moment a) = (moment : Moment) × (power : ℕ)
     × IsTalk (moment_protocol (moment_asked s.version m61_modulus moment.degree power))
     (moments.MomentStands (moment_asked s.version m61_modulus moment.degree power))
@@ -128,6 +142,9 @@ ComesOf s stream events entries asked (openings.Query query) =
 ComesOf s stream events entries asked (openings.Moment moment) =
     Asks (moment_manner.asking s.version s.depth stream) (moment, s.block) (Some [])
     (Some events) (λ value stated. value ≡ stated) (moment_sittings.verdict_of asked)
+ComesOf s stream events entries asked (openings.Large large) =
+    Asks (large_manner.asking s.version s.depth stream) (large, s.block) (Some []) (Some events)
+    (λ _ answer. entries ≡ answer) (large_sittings.verdict_of asked)
 
 -- All that is due was said, and no answer is possible by it: a reply is missing or not whole, and
 -- none has a fault so far.
@@ -142,3 +159,5 @@ WaitsFor s stream events (openings.Query query) =
     Waits (query_manner.asking s.version s.depth stream) query s.block events
 WaitsFor s stream events (openings.Moment moment) =
     Waits (moment_manner.asking s.version s.depth stream) moment s.block events
+WaitsFor s stream events (openings.Large large) =
+    Waits (large_manner.asking s.version s.depth stream) large s.block events

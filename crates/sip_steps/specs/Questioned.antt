@@ -18,6 +18,8 @@ use Rattle.sip_verifier.specs.runs.Askers.{Asks}
 use Rattle.sip_verifier.specs.runs.Asking.{IsInterrupted}
 use Rattle.sip_lookup.specs.declared.answer.LookAnswer.{LookAnswer}
 use Rattle.sip_lookup.specs.declared.lookup.Lookup.{Lookup}
+use Rattle.sip_above.specs.declared.large.Large.{Large}
+use Rattle.sip_above.specs.inside.Judging as large_sittings
 use Rattle.sip_moments.specs.declared.moment.Moment.{Moment}
 use Rattle.sip_moments.specs.Sittings as moment_sittings
 use Rattle.sip_questions.specs.declared.asker.QuestionGiven.{QuestionGiven}
@@ -62,6 +64,7 @@ IsOf q stream = RunsOn q.depth stream (query_like q.question) q.block q.running
 abbrev pub question_by : Opening → Question
 question_by (openings.Query query) = questions.Query query
 question_by (openings.Moment moment) = questions.Moment moment
+question_by (openings.Large large) = questions.Large large
 
 abbrev pub by_opening : About → Opening → Subject
 by_opening q opening = subject_at q.version q.depth opening q.block q.running
@@ -130,11 +133,16 @@ abbrev pub moment_given : Moment → Result ℤ Unanswered → Result QuestionGi
 moment_given moment (Ok value) = Ok (givens.Moment moment value)
 moment_given moment (Err why) = Err why
 
+abbrev pub large_given : Large → Result (Unit {0}) Unanswered → Result QuestionGiven Unanswered
+large_given large (Ok t) = Ok (givens.Large large)
+large_given large (Err why) = Err why
+
 -- the answer to what is asked by one message, with what is asked
 abbrev pub given_of : Opening → Result Said AskStop → Result QuestionGiven Unanswered
 given_of (openings.Query query) asked = query_given query (judging.verdict_of asked)
 given_of (openings.Moment moment) asked =
     moment_given moment (moment_sittings.verdict_of asked)
+given_of (openings.Large large) asked = large_given large (large_sittings.verdict_of asked)
 
 -- that to a lookup
 abbrev pub look_given : Lookup → Result LookAnswer Unanswered → Result QuestionGiven Unanswered

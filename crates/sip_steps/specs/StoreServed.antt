@@ -1,8 +1,9 @@
 -- A helper's end of a talk over a store of its own, without a link: what its bytes so far are.
 --
--- A talk has ended as one on a link does, whose events are these bytes (`ServesStore`). Until then
--- an opening is awaited, or how many records are to be heard, or what is asked of those that were
--- heard. The store is read in one call: nothing is said of what it tells in another.
+-- A talk has ended as one on a link does, whose events are these bytes (`ServesStore`), and in which
+-- the store was not read again. Until then an opening is awaited, or how many records are to be heard,
+-- or what is asked of those that were heard. The store is read in one call: nothing is said of what
+-- it tells in another.
 use Rattle.std.specs.Prelude.{◌≡◌, ℕ, Bool, true, false, ◌&&◌, not, List, [], ◌++◌, length, Option}
 use Rattle.std.specs.Prelude.{Some, None, if◌then◌else◌}
 use Rattle.sip_ports.specs.declared.port.TalkEvent.{TalkEvent}
@@ -81,7 +82,7 @@ module _ (form : Form) (events : List TalkEvent) (core : QuestionHelper) (coming
     pub us : List Update
     pub hears : Hears recalls form read.store read.left us
     pub goes : Goes question_rules questions_left answers_still
-        (store_heard recalls.number recalls.depth us) (length (asked_for recalls))
+        (store_heard recalls.number recalls.depth us None) (length (asked_for recalls))
         (ins (asked_for recalls) ++ outs (held_frame recalls us)) events core coming
 
   -- by what is known of the store, and what is awaited
@@ -96,11 +97,12 @@ module _ (form : Form) (events : List TalkEvent) (core : QuestionHelper) (coming
 -- ---- the talk
 
 module _ (form : Form) (read : Option StoreRead) (events : List TalkEvent) where
-  -- it has ended so, whatever the store tells, where it was not read
+  -- it has ended so, whatever a store tells that was not read, or not again
   abbrev pub EndsBy : StoreStatus → Type 0
-  EndsBy status = elim read [
-    | None ↦ (store : Option (List ℕ)) → ServesStore form store store (Some []) (Some events) status
-    | Some r ↦ ServesStore form r.store r.left (Some []) (Some events) status
+  EndsBy status = (again : Option (List ℕ)) → elim read [
+    | None ↦ (store : Option (List ℕ)) → ServesStore form store store again again (Some [])
+        (Some events) status
+    | Some r ↦ ServesStore form r.store r.left again again (Some []) (Some events) status
   ]
 
   -- by how the talk ended, where it did

@@ -56,6 +56,7 @@ impl<C: Check + Drop, Q: Request + Drop> Asking<C, Q> {
         requires stood { (asked : C.Asked) × ((C.protocol asked).rules.version ≡ version)
             × C.stands asked (C.protocol asked).rules.start check places.items }
         ensures begun { IfOk result (IsBegun C.protocol C.stands C.phase Q.message) }
+        ensures request { IfOk result (λ a. a.request ≡ request) }
         ensures asked { IfOk result (λ a. (asked : C.Asked)
             → (C.protocol asked).rules.version ≡ version
             → C.stands asked (C.protocol asked).rules.start check places.items
@@ -81,6 +82,7 @@ impl<C: Check + Drop, Q: Request + Drop> Asking<C, Q> {
             → C.stands asked (C.protocol asked).rules.start check places.items
             → IsAsked (C.protocol asked) (C.stands asked) C.phase Q.message (Q.message request)
             (C.phase check).block [] result }
+        ensures request { result.request ≡ request }
         ensures silent { is_hearing result.turn.stage ≡ false }
     {
         let turn = Turn::begin(&check, version);
@@ -134,6 +136,7 @@ impl<C: Check + Drop, Q: Request + Drop> Asking<C, Q> {
     pub fn due<L: Link>(&mut self, out: &mut L) -> Result<(), PortStop>
         requires begun { IsBegun C.protocol C.stands C.phase Q.message self.old }
         ensures begun { IsBegun C.protocol C.stands C.phase Q.message self.new }
+        ensures request { self.new.request ≡ self.old.request }
         ensures talk { SendsWhole (L.talk out.old) (L.talk out.new) result
             (due_bytes Q.message self.old) }
         ensures asked { (asked : C.Asked) (request : AnyMessage) (block : List ℕ)
@@ -161,6 +164,7 @@ impl<C: Check + Drop, Q: Request + Drop> Asking<C, Q> {
         requires hears { is_hearing self.old.turn.stage ≡ true }
         requires few { length bytes.now < self.old.lacking }
         ensures turn { self.new.turn ≡ self.old.turn }
+        ensures request { self.new.request ≡ self.old.request }
         ensures asked { (asked : C.Asked) (request : AnyMessage) (block : List ℕ)
             (events : List AnyEvent) → IsAsked (C.protocol asked) (C.stands asked) C.phase
             Q.message request block events self.old
@@ -177,6 +181,7 @@ impl<C: Check + Drop, Q: Request + Drop> Asking<C, Q> {
     fn hear(&mut self, bytes: &[u8]) -> usize
         requires begun { IsBegun C.protocol C.stands C.phase Q.message self.old }
         requires hears { is_hearing self.old.turn.stage ≡ true }
+        ensures request { self.new.request ≡ self.old.request }
         ensures most { result ≤ length bytes.now }
         ensures all { is_hearing self.new.turn.stage ≡ true → result ≡ length bytes.now }
         ensures asked { (asked : C.Asked) (request : AnyMessage) (block : List ℕ)
@@ -199,6 +204,7 @@ impl<C: Check + Drop, Q: Request + Drop> Asking<C, Q> {
     pub fn feed(&mut self, bytes: &[u8]) -> usize
         requires begun { IsBegun C.protocol C.stands C.phase Q.message self.old }
         ensures begun { IsBegun C.protocol C.stands C.phase Q.message self.new }
+        ensures request { self.new.request ≡ self.old.request }
         ensures most { result ≤ length bytes.now }
         ensures all { is_hearing self.new.turn.stage ≡ true → result ≡ length bytes.now }
         ensures none { is_hearing self.old.turn.stage ≡ false → result ≡ 0 }
@@ -223,6 +229,7 @@ impl<C: Check + Drop, Q: Request + Drop> Asking<C, Q> {
         requires begun { IsBegun C.protocol C.stands C.phase Q.message self.old }
         ensures begun { IsBegun C.protocol C.stands C.phase Q.message self.new }
         ensures closed { is_hearing self.new.turn.stage ≡ false }
+        ensures request { self.new.request ≡ self.old.request }
         ensures same { is_hearing self.old.turn.stage ≡ false → self.new.turn ≡ self.old.turn }
         ensures asked { (asked : C.Asked) (request : AnyMessage) (block : List ℕ)
             (events : List AnyEvent) → IsAsked (C.protocol asked) (C.stands asked) C.phase

@@ -8,24 +8,25 @@ ghost use Rattle.sip_wire.specs.Spelling.{fits};
 ghost use Rattle.sip_subvec.specs.Asking.{most_answer};
 ghost use Rattle.sip_subvec.specs.Protocol.{sub_asked, sub_protocol};
 ghost use Rattle.sip_sums.specs.Protocol.{sum_asked, sum_protocol};
-ghost use Rattle.sip_heavy.specs.Protocol.{count_of, heavy_asked, heavy_protocol};
+ghost use Rattle.sip_heavy.specs.Protocol.{above_asked, count_of, heavy_asked, heavy_protocol};
 ghost use Rattle.sip_verifier.specs.QuerySeats.{RunningNumbers, keeps};
 ghost use Rattle.sip_verifier.specs.Running.{block_of, numbers_of};
 ghost use Rattle.sip_moments.specs.Moments.{IsDegree};
 ghost use Rattle.sip_steps.specs.Openings.{CanOpen, message_of, query_like, subject_at};
 ghost use Rattle.sip_steps.specs.Openings.{subject_of};
-ghost use Rattle.sip_steps.specs.Posed.{HasBegun, IsOfMoment, IsOfQuery, IsPosed};
+ghost use Rattle.sip_steps.specs.Posed.{HasBegun, IsOfLarge, IsOfMoment, IsOfQuery, IsPosed};
 
 use crate::asking::Asking;
 use crate::opening::Opening;
 use crate::posing::Posing;
+use sip_above::Large;
 use sip_field::{Field, M61, OutOfMemory, Seat};
 use sip_heavy::{HeavyAsking, HeavySpace};
 use sip_mle::{Point, interval_at};
 use sip_moments::{Moment, MomentAsking};
 use sip_subvec::{MOST_ENTRIES, SubAsking};
 use sip_sums::SumAsking;
-use sip_tree::{AugRoot, Root};
+use sip_tree::{AugRoot, Root, SplitRoot};
 use sip_vector::{CAP, Depth, Entry, Query, share_of};
 use sip_verifier::Running;
 use sip_wire::Version;
@@ -126,6 +127,31 @@ fn begin_heavy(
     Ok(Posing::Heavy(asking))
 }
 
+// For large entries, by the root of the split tree.
+fn begin_large(
+    alloc: Global,
+    version: Version,
+    large: Large,
+    root: &SplitRoot<M61, CAP>,
+) -> Result<Posing, OutOfMemory>
+    requires least { 1 ≤ large.at_least }
+    requires fits { IsTrue (fits version (message_of (Opening.Large large))) }
+    ensures posed { (depth : ℕ) (running : RunningNumbers)
+        → IsOfLarge (subject_at version depth (Opening.Large large) root.now.seat running)
+        (heavy_protocol (above_asked version m61_modulus root.now.hash root.now.weight
+        (length root.now.seat) large.at_least))
+        → IfOk result
+        (IsPosed (subject_at version depth (Opening.Large large) root.now.seat running) []) }
+{
+    let nodes = large.most_nodes(root.weight());
+    let places = places_for(alloc, nodes)?;
+    let space = HeavySpace::reserve(alloc, nodes)?;
+    let check = HeavyAsking::start_above(root, large.at_least, space);
+    let opening = Opening::Large(large);
+    let asking = Asking::begin(alloc, check, version, opening, places)?;
+    Ok(Posing::Heavy(asking))
+}
+
 // For a moment, by the extension of the vector.
 fn begin_moment(
     alloc: Global,
@@ -210,6 +236,9 @@ fn begun(
         (Opening::Moment(moment), Running::Point(point)) => {
             begin_moment(alloc, version, moment, &point.seat, point.value())
         }
+        (Opening::Large(large), Running::SplitRoot(root)) => begin_large(
+            alloc, version, large, root,
+        ),
         _ => unreachable!(),
     }
 }
@@ -220,14 +249,15 @@ impl Posing {
     /// alone: the other end knows all but one of their challenges from then on.
     ///
     /// Takes a frame of 8,709 bytes, and 16 bytes for each entry that the answer may have: one for
-    /// each item of an interval, up to 65,536, and 2 * floor(n / T) where heavy hitters are asked
-    /// for, which takes 64 bytes more for each. Where heavy hitters are asked for and nothing can
-    /// be as large, the empty answer is the verdict at once.
+    /// each item of an interval, up to 65,536, and 2 * floor(n / T) where heavy hitters or large
+    /// entries are asked for, which takes 64 bytes more for each. Where these are asked for and
+    /// nothing can be as large, the empty answer is the verdict at once.
     ///
     /// No question is refused here for what a helper may have no room to answer. Before that is
     /// asked it is the caller's to test: [`is_wide`](sip_vector::is_wide) of the total where heavy
-    /// hitters are asked for, and [`is_too_high`](sip_moments::is_too_high) of the side's weight
-    /// where a moment is. An honest helper may refuse one that was not tested.
+    /// hitters are asked for, and of the side's weight where large entries are, and
+    /// [`is_too_high`](sip_moments::is_too_high) of that weight where a moment is. An honest helper
+    /// may refuse one that was not tested.
     ///
     /// # Errors
     ///

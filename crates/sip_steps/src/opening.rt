@@ -1,5 +1,6 @@
 //! What is asked by one message.
 
+use sip_above::Large;
 use sip_moments::Moment;
 use sip_ports::{Link, PortStop};
 use sip_replies::Request;
@@ -13,6 +14,8 @@ pub enum Opening {
     Query(Query),
     /// A moment.
     Moment(Moment),
+    /// Large entries.
+    Large(Large),
 }
 
 impl Request for Opening {
@@ -24,6 +27,7 @@ impl Request for Opening {
         match self {
             Opening::Query(query) => query.send(version, link),
             Opening::Moment(moment) => moment.send(version, link),
+            Opening::Large(large) => large.query().send(version, link),
         }
     }
 }

@@ -19,7 +19,8 @@ use sip_subvec::SubAsking;
 use sip_sums::SumAsking;
 use sip_vector::Entry;
 
-/// A question that is under way and is asked by one message: a query or a moment, by its kind.
+/// A question that is under way and is asked by one message: a query, a moment or large entries, by
+/// its kind.
 ///
 /// It is driven as [`Asking`] is: what is [`due`](Posing::due) is sent, and what comes is
 /// [fed](Posing::feed), until there is a [`verdict`](Posing::verdict). Memory is taken by
@@ -30,7 +31,7 @@ pub enum Posing {
     Entries(Asking<SubAsking, Opening>),
     /// A query for a sum.
     Sum(Asking<SumAsking, Opening>),
-    /// A query for heavy hitters.
+    /// A query for heavy hitters, or large entries.
     Heavy(Asking<HeavyAsking, Opening>),
     /// A moment.
     Moment(Asking<MomentAsking, Opening>),

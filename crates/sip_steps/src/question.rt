@@ -36,7 +36,7 @@ use std::alloc::Global;
 /// is that of the bytes.
 #[derive(Drop)]
 pub enum QuestionAsking {
-    /// A query or a moment.
+    /// A query, a moment or large entries.
     Posed(Posing),
     /// A lookup.
     Looked(Looking),
@@ -59,6 +59,8 @@ fn given_of(opening: Opening, asked: Result<Said, AskStop>) -> Result<QuestionGi
         (Opening::Moment(moment), Ok(Said::Pairs(_))) => {
             Ok(QuestionGiven::Moment { moment, value: 0 })
         }
+        // Large entries are never answered by a number.
+        (Opening::Large(large), Ok(_)) => Ok(QuestionGiven::Large { large }),
     }
 }
 
@@ -82,7 +84,8 @@ impl QuestionAsking {
     ///
     /// Takes a frame of 8,709 bytes, and 16 bytes for each entry that the answer may have: one for
     /// each item of an interval, up to 65,536, of a lookup the widest that may prove its place, and
-    /// 2 * floor(n / T) where heavy hitters are asked for, which takes 64 bytes more for each.
+    /// 2 * floor(n / T) where heavy hitters or large entries are asked for, which takes 64 bytes more
+    /// for each.
     ///
     /// No question is refused here for what a helper may have no room to answer: before that is
     /// asked it is the caller's to test ([`QuestionSeat::refusal`](sip_questions::QuestionSeat)).
@@ -114,6 +117,11 @@ impl QuestionAsking {
             }
             (Question::Moment(moment), running) => {
                 let opening = Opening::Moment(moment);
+                let posing = Posing::begin(alloc, version, depth, opening, &running)?;
+                Ok(QuestionAsking::Posed(posing))
+            }
+            (Question::Large(large), running) => {
+                let opening = Opening::Large(large);
                 let posing = Posing::begin(alloc, version, depth, opening, &running)?;
                 Ok(QuestionAsking::Posed(posing))
             }

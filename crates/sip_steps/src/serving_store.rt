@@ -5,9 +5,8 @@ ghost use Rattle.std.specs.Prelude.{None, Some, Option, Err, length, take, IfOk,
 ghost use Rattle.sip_ports.specs.declared.port.TalkEvent.{TalkEvent as AnyEvent};
 ghost use Rattle.sip_ports.specs.Ports.{GoesOn, Lasts, Rose, outs};
 ghost use Rattle.sip_stream.specs.declared.form.Form.{Form as AnyForm};
-ghost use Rattle.sip_wire.specs.declared.message.Message.TheVariants as messages;
-ghost use Rattle.sip_questions.specs.Serving.{fresh_questions, step};
 ghost use Rattle.sip_questions.specs.StoreFronts.{Recalls};
+ghost use Rattle.sip_questions.specs.Stores.{questions_opened};
 ghost use Rattle.sip_steps.specs.declared.coming.Coming.{Coming as AnyComing};
 ghost use Rattle.sip_steps.specs.Served.{Passes, end_seen};
 ghost use Rattle.sip_steps.specs.StoreServed.{IsStoreServed, IsUnderWay, StoreRead, is_read};
@@ -18,15 +17,13 @@ use crate::coming::{Came, Coming};
 use sip_field::OutOfMemory;
 use sip_helper::{HelpStatus, Helps};
 use sip_ports::{Sink, Source};
-use sip_questions::{QuestionCore, Recalling, StoreStatus, hear_store, say_held};
+use sip_questions::{QuestionCore, Recalling, StoreStatus, say_held};
 use sip_stream::Form;
 use sip_wire::{Place, Version};
 use std::alloc::Global;
-use std::mem;
 
 // Hears so many records of the store, and says what they come to.
 fn recall<A: Source, K: Sink>(
-    alloc: Global,
     form: Form,
     core: &mut QuestionCore,
     count: u64,
@@ -34,10 +31,8 @@ fn recall<A: Source, K: Sink>(
     out: &mut K,
 ) -> Result<(), StoreStatus>
     requires opened { (r : Recalls) × (refused : Bool)
-        × (core.old ≡ step fresh_questions refused (messages.Open r.number r.depth))
-        × (count ≡ r.count) }
-    ensures tells { (r : Recalls) (refused : Bool)
-        → core.old ≡ step fresh_questions refused (messages.Open r.number r.depth)
+        × (core.old ≡ questions_opened r refused) × (count ≡ r.count) }
+    ensures tells { (r : Recalls) (refused : Bool) → core.old ≡ questions_opened r refused
         → count ≡ r.count → (sent : List ℕ) × GoesOn (K.talk out.old) (K.talk out.new) (outs sent)
         × TellsBy r form (A.left first.old) (A.left first.new) core.new sent result }
     ensures told { IsSome (A.left first.old) → IsSome (A.left first.new) }
@@ -50,16 +45,13 @@ fn recall<A: Source, K: Sink>(
     ensures first { Lasts A.faults A.wants A.is_sure first.old first.new }
     ensures lasts { Lasts K.faults K.wants K.is_sure out.old out.new }
 {
-    let opened = mem::replace(core, QuestionCore::new(alloc));
-    let mut stream = opened.into_stream();
-    let held = match hear_store(alloc, &mut stream, form, first, count) {
-        Ok(held) => held,
+    let told = match core.hear_store(form, first, count) {
+        Ok(told) => told,
         Err(status) => return Err(status),
     };
-    if let Err(stop) = say_held(held, stream.spoken(), out) {
+    if let Err(stop) = say_held(&told, core.version_due(), out) {
         return Err(StoreStatus::from(HelpStatus::from(stop)));
     }
-    *core = QuestionCore::behind(alloc, stream);
     Ok(())
 }
 
@@ -78,13 +70,13 @@ pub enum StoreStage {
 ///
 /// What comes is [fed](ServingStore::feed), and what is owed goes out at once, until the talk has a
 /// [`status`](ServingStore::status): it is the talk of a [`serve_store`](sip_questions::serve_store)
-/// on a link. The store is lent at each call and read in one of them alone, that in which it became
-/// known how many of its records are to be heard ([`has_read`](ServingStore::has_read)). Memory is
-/// taken by [`begin`](ServingStore::begin), and else what `serve_store` takes. The time is that of
-/// the bytes, of hearing the records and of the replies.
+/// on a link, whatever the source tells that is read again there. The store is lent at each call and
+/// read in one of them alone, that in which it became known how many of its records are to be heard
+/// ([`has_read`](ServingStore::has_read)). So questions for large entries are refused, as for want
+/// of memory. Memory is taken by [`begin`](ServingStore::begin), and else what `serve_store` takes.
+/// The time is that of the bytes, of hearing the records and of the replies.
 #[derive(Drop)]
 pub struct ServingStore {
-    alloc: Global,
     form: Form,
     core: QuestionCore,
     coming: Coming,
@@ -104,7 +96,6 @@ impl ServingStore {
     {
         let coming = Coming::begin(alloc)?;
         Ok(ServingStore {
-            alloc,
             form,
             core: QuestionCore::new(alloc),
             coming,
@@ -161,14 +152,7 @@ impl ServingStore {
                     unreachable!()
                 };
                 self.stage = StoreStage::Answering;
-                if let Err(status) = recall(
-                    self.alloc,
-                    self.form,
-                    &mut self.core,
-                    count,
-                    first,
-                    out,
-                ) {
+                if let Err(status) = recall(self.form, &mut self.core, count, first, out) {
                     self.status = Some(status);
                 }
             }

@@ -14,7 +14,7 @@ use Rattle.sip_vector.specs.declared.update.Update.{Update}
 use Rattle.sip_vector.specs.Streams.{int_sum, of_side, weight}
 use Rattle.sip_vector.specs.Tallies.{has_negative}
 use Rattle.sip_verifier.specs.Negatives.{asks_heavy, has_light, is_light}
-use Rattle.sip_verifier.specs.QuerySeats.{RunningNumbers, RunsOn, Seated, StandsFor, aug_root_is, is_heavy_of, point_is, points_are, root_is}
+use Rattle.sip_verifier.specs.QuerySeats.{RunningNumbers, RunsOn, Seated, StandsFor, aug_root_is, is_heavy_of, point_is, points_are, root_is, split_root_is}
 use Rattle.sip_verifier.proofs.SeatTotals.{light_sum, seat_total, size}
 
 -- ---- numbers
@@ -78,10 +78,12 @@ keeps_total depth stream side Inner block running heavy runs = absurd (let no : 
 keeps_total depth stream side (Heavy own least) block (root_is value) heavy runs = absurd runs
 keeps_total depth stream side (Heavy own least) block (point_is value) heavy runs = absurd runs
 keeps_total depth stream side (Heavy own least) block (points_are first second) heavy runs = absurd runs
+keeps_total depth stream side (Heavy own least) block (split_root_is hash weight) heavy runs = absurd runs
 keeps_total depth stream side (Heavy own least) block (aug_root_is hash sum) heavy runs = (hash, sum, refl)
 keeps_total depth stream side (Share own num den) block (root_is value) heavy runs = absurd runs
 keeps_total depth stream side (Share own num den) block (point_is value) heavy runs = absurd runs
 keeps_total depth stream side (Share own num den) block (points_are first second) heavy runs = absurd runs
+keeps_total depth stream side (Share own num den) block (split_root_is hash weight) heavy runs = absurd runs
 keeps_total depth stream side (Share own num den) block (aug_root_is hash sum) heavy runs = (hash, sum, refl)
 keeps_total depth stream side (Above own least) block running heavy runs = absurd (let no : false ≡ true = heavy in cc)
 

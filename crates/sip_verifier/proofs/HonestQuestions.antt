@@ -107,11 +107,11 @@ accepted_where P block replies answer unasked = elim unasked [
   | Some known ↦ (replies ≡ []) × (answer ≡ known)
 ]
 
-accepted_asked : {S : Type 0} (P : Protocol S) (block : List ℕ) (replies : List (List ℕ)) (answer : Answer) → P.unasked ≡ None
+pub accepted_asked : {S : Type 0} (P : Protocol S) (block : List ℕ) (replies : List (List ℕ)) (answer : Answer) → P.unasked ≡ None
     → general.IsAccepted P block replies answer → IsStated P block replies answer
 accepted_asked P block replies answer e h = subst (accepted_where P block replies answer) e h
 
-accepted_unasked : {S : Type 0} (P : Protocol S) (block : List ℕ) (replies : List (List ℕ)) (answer known : Answer) → P.unasked ≡ Some known
+pub accepted_unasked : {S : Type 0} (P : Protocol S) (block : List ℕ) (replies : List (List ℕ)) (answer known : Answer) → P.unasked ≡ Some known
     → general.IsAccepted P block replies answer → (replies ≡ []) × (answer ≡ known)
 accepted_unasked P block replies answer known e h = subst (accepted_where P block replies answer) e h
 

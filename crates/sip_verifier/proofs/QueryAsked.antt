@@ -22,7 +22,7 @@ use Rattle.sip_verifier.specs.inside.Protocols.{IsProtocol}
 use Rattle.sip_verifier.specs.Questions.{said_for}
 
 -- no more are shown than there are
-take-min : {X : Type 0} (n : ℕ) (xs : List X) → take (min n (length xs)) xs ≡ take n xs
+pub take-min : {X : Type 0} (n : ℕ) (xs : List X) → take (min n (length xs)) xs ≡ take n xs
 take-min zero xs = let none : min 0 (length xs) ≡ 0 = omega arith in ap (λ (k : ℕ). take k xs) none
 take-min (suc n) [] = let none : min (suc n) 0 ≡ 0 = omega arith in ap (λ (k : ℕ). take k []) none
 take-min (suc n) (x ∷ xs) =

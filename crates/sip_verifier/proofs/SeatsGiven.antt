@@ -9,7 +9,7 @@ use Rattle.std.proofs.lemmas.List.Elements.{All-push}
 use Rattle.std.proofs.lemmas.List.Folds.{list_all-append}
 use Rattle.sip_field.specs.Moduli.{m61_modulus}
 use Rattle.sip_mle.specs.StandsFor.{PointStandsFor}
-use Rattle.sip_tree.specs.StandsFor.{RootStandsFor, AugRootStandsFor}
+use Rattle.sip_tree.specs.StandsFor.{RootStandsFor, AugRootStandsFor, SplitRootStandsFor}
 use Rattle.sip_vector.specs.declared.query.Query.{Query}
 use Rattle.sip_vector.specs.declared.query.Query.TheVariants.{Sub, Range, F2, Inner, Heavy, Share, Above}
 use Rattle.sip_vector.specs.declared.update.Side.{Side}
@@ -19,7 +19,7 @@ use Rattle.sip_vector.specs.Limits.{most_share}
 use Rattle.sip_vector.specs.Pieces.{pieces, cut}
 use Rattle.sip_vector.specs.Streams.{vector}
 use Rattle.sip_vector.proofs.Sides.{vector-nil}
-use Rattle.sip_verifier.specs.QuerySeats.{Seated, root_is, point_is, points_are, aug_root_is, RunsOn, StandsFor, can_be_asked, does_fit, is_seat, keeps}
+use Rattle.sip_verifier.specs.QuerySeats.{Seated, root_is, point_is, points_are, aug_root_is, split_root_is, RunsOn, StandsFor, can_be_asked, does_fit, is_seat, keeps}
 use Rattle.sip_verifier.specs.Tasks.{CanBeAsked}
 
 -- ---- one seat
@@ -72,6 +72,18 @@ module _ (depth : ℕ) (block : List ℕ) (size : length block ≡ depth) where
       → AugRootStandsFor m61_modulus block hash total (vector depth [] side)
   aug_root_of_none hash total side stands = rw (vector-nil depth side)
       (subst (λ n. AugRootStandsFor m61_modulus block hash total (replicate (2 ^ n) (pos 0))) size stands)
+
+  pub new_split_root : (query : Query) (hash weight : ℕ) → IsTrue (keeps query (split_root_is hash weight))
+      → SplitRootStandsFor m61_modulus block hash weight (replicate (2 ^ length block) (pos 0)) (replicate (2 ^ length block) (pos 0))
+      → RunsOn depth [] query block (split_root_is hash weight)
+  new_split_root (Sub lo hi) hash weight kept stands = absurd cc
+  new_split_root (Range side lo hi) hash weight kept stands = absurd cc
+  new_split_root (F2 side) hash weight kept stands = absurd cc
+  new_split_root Inner hash weight kept stands = absurd cc
+  new_split_root (Heavy side least) hash weight kept stands = absurd cc
+  new_split_root (Above side least) hash weight kept stands = rw (vector-nil depth side)
+      (subst (λ n. SplitRootStandsFor m61_modulus block hash weight (replicate (2 ^ n) (pos 0)) (replicate (2 ^ n) (pos 0))) size stands)
+  new_split_root (Share side num den) hash weight kept stands = absurd cc
 
   pub new_aug_root : (query : Query) (hash : ℕ) (total : ℤ) → IsTrue (keeps query (aug_root_is hash total))
       → AugRootStandsFor m61_modulus block hash total (replicate (2 ^ length block) (pos 0))

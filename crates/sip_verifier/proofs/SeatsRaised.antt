@@ -10,11 +10,11 @@ use Rattle.sip_vector.specs.declared.query.Query.TheVariants.{Sub, Range, F2, In
 use Rattle.sip_vector.specs.declared.update.Side.{Side}
 use Rattle.sip_vector.specs.declared.update.Side.TheVariants.{First, Second}
 use Rattle.sip_vector.specs.declared.update.Update.{Update}
-use Rattle.sip_vector.specs.Streams.{of_side, vector}
-use Rattle.sip_verifier.specs.QuerySeats.{HasRoom, HaveRoom, RunningNumbers, Seated, StandsFor, aug_root_is, can_be_asked, concerns, is_heavy_of, is_seat, keeps}
+use Rattle.sip_vector.specs.Streams.{of_side}
+use Rattle.sip_verifier.specs.QuerySeats.{HasRoom, HaveRoom, RunningNumbers, Seated, StandsFor, aug_root_is, split_root_is, can_be_asked, concerns, is_heavy_of, is_seat, keeps}
 use Rattle.sip_verifier.specs.Seats.{AreSeats, Seating}
 use Rattle.sip_verifier.specs.inside.Raising.{AreLeft}
-use Rattle.sip_verifier.proofs.Seating.{of_own, runs_on, same_runs, seat_from, seat_parts}
+use Rattle.sip_verifier.proofs.Seating.{AreSame, of_own, runs_on, same_runs, seat_from, seat_parts}
 
 -- what they make of a seat
 pub record IsRaised (side : Side) (updates : List Update) (old new : Seated) : Type 0 where
@@ -100,15 +100,32 @@ heavy_alone (Heavy own least) side hash total concerned kept = concerned
 heavy_alone (Share own num den) side hash total concerned kept = concerned
 heavy_alone (Above own least) side hash total concerned kept = absurd cc
 
+-- and one that keeps a weight is of no run
+weight_alone : (depth : ℕ) (query : Query) (hash weight : ℕ) → IsTrue (can_be_asked depth query) → IsTrue (keeps query (split_root_is hash weight)) → ⊥
+weight_alone depth (Sub lo hi) hash weight can kept = absurd cc
+weight_alone depth (Range own lo hi) hash weight can kept = absurd cc
+weight_alone depth (F2 own) hash weight can kept = absurd cc
+weight_alone depth Inner hash weight can kept = absurd cc
+weight_alone depth (Heavy own least) hash weight can kept = absurd cc
+weight_alone depth (Share own num den) hash weight can kept = absurd cc
+weight_alone depth (Above own least) hash weight can kept = absurd cc
+
 -- so there is room where there was room before
 pub raised-room : (side : Side) (updates : List Update) (k depth : ℕ) (old new : List Seated) (d : Seated) → RaisedTo side updates k old new → k < length new
     → All (λ u. u.side ≡ side) updates → IsTrue (is_seat depth (get_or new k d)) → HaveRoom old updates side → IsTrue (concerns (get_or new k d).query side) → HasRoom (get_or new k d).running updates
-raised-room side updates k depth old new d so lt own is room concerned = λ hash total sums.
-    let kept = subst (λ (r : RunningNumbers). IsTrue (keeps (get_or new k d).query r)) sums (seat_parts depth (get_or new k d) is).2 in
-    let heavy = heavy_alone (get_or new k d).query side hash total concerned kept in
-    let here = raised-next-old side updates k old new d so lt in
-    let there = room k d here.0 (subst (λ (s : Seated). IsTrue (is_heavy_of s.query side)) here.1 heavy) in
-    subst (λ (s : Seated). HasRoom s.running updates) (sym here.1) (subst (HasRoom (get_or old k d).running) (of_own updates side own) there) hash total sums
+raised-room side updates k depth old new d so lt own is room concerned =
+    let parts = seat_parts depth (get_or new k d) is in
+    record {
+      sums = λ hash total sums.
+          let kept = subst (λ (r : RunningNumbers). IsTrue (keeps (get_or new k d).query r)) sums parts.2 in
+          let heavy = heavy_alone (get_or new k d).query side hash total concerned kept in
+          let here = raised-next-old side updates k old new d so lt in
+          let there = room k d here.0 (subst (λ (s : Seated). IsTrue (is_heavy_of s.query side)) here.1 heavy) in
+          let same = subst (λ (s : Seated). HasRoom s.running updates) (sym here.1) (subst (HasRoom (get_or old k d).running) (of_own updates side own) there) in
+          same.sums hash total sums;
+      weights = λ hash weight keeps_it.
+          absurd (weight_alone depth (get_or new k d).query hash weight parts.0 (subst (λ (r : RunningNumbers). IsTrue (keeps (get_or new k d).query r)) keeps_it parts.2));
+    }
 
 -- those that the side does not concern are as they were
 pub raised-left : (side : Side) (updates : List Update) (k : ℕ) (old new : List Seated) → RaisedTo side updates k old new → length old ≤ k → AreLeft side old new
@@ -163,7 +180,7 @@ refilled old new len = ap (λ n. take n (new ++ drop (length new) old)) (sym len
 
 -- seats stand for each stream with the same vectors
 pub same_seats : (depth : ℕ) (queries : List Query) (blocks : List (List ℕ)) (one other : List Update) (s : Seating)
-    → ((side : Side) → vector depth one side ≡ vector depth other side) → AreSeats depth queries blocks one s → AreSeats depth queries blocks other s
+    → AreSame depth one other → AreSeats depth queries blocks one s → AreSeats depth queries blocks other s
 same_seats depth queries blocks one other s same are = record {
   levels = are.levels;
   asked = are.asked;

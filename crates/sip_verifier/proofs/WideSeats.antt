@@ -14,7 +14,7 @@ use Rattle.sip_vector.specs.declared.update.Update.{Update}
 use Rattle.sip_vector.specs.Streams.{vector}
 use Rattle.sip_vector.specs.Thresholds.{is_wide, share_of}
 use Rattle.sip_vector.proofs.Sides.{total-is}
-use Rattle.sip_verifier.specs.QuerySeats.{RunningNumbers, Seated, StandsFor, RunsOn, root_is, point_is, points_are, aug_root_is}
+use Rattle.sip_verifier.specs.QuerySeats.{RunningNumbers, Seated, StandsFor, RunsOn, root_is, point_is, points_are, aug_root_is, split_root_is}
 use Rattle.sip_verifier.specs.Seats.{AreSeats, Seating}
 use Rattle.sip_verifier.specs.Widths.{first_true, first_wide, first_wide_seat, is_too_wide, is_wide_seat}
 use Rattle.sip_verifier.proofs.SeatTotals.{root_total}
@@ -97,12 +97,14 @@ seat_width depth stream Inner block running below runs = refl
 seat_width depth stream (Heavy side least) block (root_is value) below runs = absurd runs
 seat_width depth stream (Heavy side least) block (point_is value) below runs = absurd runs
 seat_width depth stream (Heavy side least) block (points_are first second) below runs = absurd runs
+seat_width depth stream (Heavy side least) block (split_root_is hash weight) below runs = absurd runs
 seat_width depth stream (Heavy side least) block (aug_root_is hash sum) below runs =
     ap (is_wide least) (root_total m61_modulus block hash sum (vector depth stream side) runs ∙ sym (total-is depth stream side below))
-seat_width depth stream (Above side least) block running below runs = absurd runs
+seat_width depth stream (Above side least) block running below runs = refl
 seat_width depth stream (Share side num den) block (root_is value) below runs = absurd runs
 seat_width depth stream (Share side num den) block (point_is value) below runs = absurd runs
 seat_width depth stream (Share side num den) block (points_are first second) below runs = absurd runs
+seat_width depth stream (Share side num den) block (split_root_is hash weight) below runs = absurd runs
 seat_width depth stream (Share side num den) block (aug_root_is hash sum) below runs =
     ap (λ n. is_wide (share_of num den n) n) (root_total m61_modulus block hash sum (vector depth stream side) runs ∙ sym (total-is depth stream side below))
 

@@ -3,8 +3,8 @@ use Rattle.std.specs.Prelude.{◌≡◌, ℕ, ◌^◌, ◌==◌, ◌≤◌, Bool
 use Rattle.std.specs.Prelude.{nat_abs, List, length, take, All, IsTrue}
 use Rattle.sip_field.specs.Moduli.{m61_modulus}
 use Rattle.sip_mle.specs.StandsFor.{PointStandsFor}
-use Rattle.sip_tree.specs.Blocks.{total_after}
-use Rattle.sip_tree.specs.StandsFor.{RootStandsFor, AugRootStandsFor}
+use Rattle.sip_tree.specs.Blocks.{total_after, weight_after}
+use Rattle.sip_tree.specs.StandsFor.{RootStandsFor, AugRootStandsFor, SplitRootStandsFor}
 use Rattle.sip_vector.specs.declared.query.Query.{Query}
 use Rattle.sip_vector.specs.declared.query.Query.TheVariants.{Sub, Range, F2, Inner, Heavy, Share}
 use Rattle.sip_vector.specs.declared.query.Query.TheVariants.{Above}
@@ -13,6 +13,7 @@ use Rattle.sip_vector.specs.declared.update.Side.TheVariants.{First, Second}
 use Rattle.sip_vector.specs.declared.update.Update.{Update}
 use Rattle.sip_vector.specs.Built.{is_built}
 use Rattle.sip_vector.specs.Limits.{most_share}
+use Rattle.sip_vector.specs.Splits.{weights}
 use Rattle.sip_vector.specs.Streams.{same_side, of_side, most_weight, vector}
 
 -- the running numbers of a seat, by what they are
@@ -25,6 +26,8 @@ pub data RunningNumbers : Type 0 where
   points_are : ℕ → ℕ → RunningNumbers
   -- the hash of the augmented root of a side's vector, and that vector's sum
   aug_root_is : ℕ → ℤ → RunningNumbers
+  -- the hash of the root of a side's split tree, and the sum of that side's weights
+  split_root_is : ℕ → ℕ → RunningNumbers
 
 -- what is seen of a seat: its query, a block of challenges, and what it keeps of a stream
 pub record Seated : Type 0 where
@@ -54,6 +57,7 @@ keeps (F2 side) (point_is value) = true
 keeps Inner (points_are first second) = true
 keeps (Heavy side at_least) (aug_root_is hash total) = true
 keeps (Share side num den) (aug_root_is hash total) = true
+keeps (Above side at_least) (split_root_is hash weight) = true
 keeps _ running = false
 
 -- there is a challenge for each level, and the running numbers are those of the query's kind
@@ -86,6 +90,9 @@ RunsOn depth stream (Heavy side at_least) block (aug_root_is hash total) =
     AugRootStandsFor m61_modulus block hash total (vector depth stream side)
 RunsOn depth stream (Share side num den) block (aug_root_is hash total) =
     AugRootStandsFor m61_modulus block hash total (vector depth stream side)
+RunsOn depth stream (Above side at_least) block (split_root_is hash weight) =
+    SplitRootStandsFor m61_modulus block hash weight (vector depth stream side)
+    (weights depth stream side)
 RunsOn depth stream _ block running = ⊥
 
 abbrev pub StandsFor : ℕ → List Update → Seated → Type 0
@@ -93,10 +100,13 @@ StandsFor depth stream s = RunsOn depth stream s.query s.block s.running
 
 -- ---- room for more updates
 
--- a sum that is kept stays within the greatest weight behind each of these updates
-abbrev pub HasRoom : RunningNumbers → List Update → Type 0
-HasRoom running updates = (hash : ℕ) (total : ℤ) → running ≡ aug_root_is hash total
-    → (k : ℕ) → k ≤ length updates → nat_abs (total_after total (take k updates)) ≤ most_weight
+-- A sum that is kept stays within the greatest weight behind each of these updates, and so does a
+-- weight behind all of them.
+pub record HasRoom (running : RunningNumbers) (updates : List Update) : Type 0 where
+  pub sums : (hash : ℕ) (total : ℤ) → running ≡ aug_root_is hash total
+      → (k : ℕ) → k ≤ length updates → nat_abs (total_after total (take k updates)) ≤ most_weight
+  pub weights : (hash weight : ℕ) → running ≡ split_root_is hash weight
+      → weight_after weight updates ≤ most_weight
 
 -- the query is for heavy hitters of this side
 abbrev pub is_heavy_of : Query → Side → Bool

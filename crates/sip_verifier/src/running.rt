@@ -3,7 +3,6 @@
 ghost use Rattle.std.specs.Prelude.{◌≡◌, ◌<◌, ◌≤◌, ◌^◌, ℕ, List, [], ◌++◌, length, All, IsTrue};
 ghost use Rattle.sip_vector.specs.declared.query.Query.{Query as AnyQuery};
 ghost use Rattle.sip_vector.specs.declared.update.Update.{Update as AnyUpdate};
-ghost use Rattle.sip_vector.specs.Built.{is_built};
 ghost use Rattle.sip_vector.specs.Limits.{most_depth};
 ghost use Rattle.sip_verifier.specs.QuerySeats.{HasRoom, concerns, keeps};
 ghost use Rattle.sip_verifier.specs.Running.{FitTogether, RunsFor, added_up, block_of, numbers_of};
@@ -12,7 +11,7 @@ ghost use Rattle.sip_verifier.specs.Running.{same_kind};
 use crate::points::Points;
 use sip_field::{M61, OutOfMemory, Seat};
 use sip_mle::Point;
-use sip_tree::{AugRoot, Root};
+use sip_tree::{AugRoot, Root, SplitRoot};
 use sip_vector::{CAP, Query, Side, Update};
 use std::alloc::Global;
 
@@ -27,24 +26,24 @@ pub enum Running {
     Points(Points),
     /// Of heavy hitters: the root of the augmented tree over the side's vector.
     AugRoot(AugRoot<M61, CAP>),
+    /// Of large entries of any stream: the root of the split tree over the side's values and
+    /// weights.
+    SplitRoot(SplitRoot<M61, CAP>),
 }
 
 impl Running {
     /// Those of a query before any update, at these challenges.
     pub fn begin(query: &Query, block: Seat<M61, CAP>) -> Running
         ensures block { block_of result ≡ block }
-        ensures keeps { IsTrue (is_built query.now)
-            → IsTrue (keeps query.now (numbers_of result)) }
-        ensures runs { IsTrue (is_built query.now)
-            → (depth : ℕ) → length block ≡ depth → RunsFor depth [] query.now result }
+        ensures keeps { IsTrue (keeps query.now (numbers_of result)) }
+        ensures runs { (depth : ℕ) → length block ≡ depth → RunsFor depth [] query.now result }
     {
         match query {
             Query::Sub { .. } => Running::Root(Root::new(block)),
             Query::Range { .. } | Query::F2 { .. } => Running::Point(Point::new(block)),
             Query::Inner => Running::Points(Points::new(block)),
             Query::Heavy { .. } | Query::Share { .. } => Running::AugRoot(AugRoot::new(block)),
-            // It is not built, and so never asked.
-            Query::Above { .. } => Running::AugRoot(AugRoot::new(block)),
+            Query::Above { .. } => Running::SplitRoot(SplitRoot::new(block)),
         }
     }
 
@@ -57,12 +56,13 @@ impl Running {
             Running::Point(point) => &point.seat,
             Running::Points(points) => &points.first.seat,
             Running::AugRoot(root) => &root.seat,
+            Running::SplitRoot(root) => &root.seat,
         }
     }
 
     /// Keeps tables of the challenges from now on, by which updates are added: 2 KiB for eight
-    /// levels, and 4 for heavy hitters. The numbers stay as they are, also where there is no
-    /// memory.
+    /// levels, 4 for heavy hitters, and none for large entries of any stream. The numbers stay as
+    /// they are, also where there is no memory.
     pub fn keep_tables(&mut self, alloc: Global) -> Result<(), OutOfMemory>
         ensures block { block_of self.new ≡ block_of self.old }
         ensures numbers { numbers_of self.new ≡ numbers_of self.old }
@@ -72,6 +72,7 @@ impl Running {
             Running::Point(point) => point.keep_tables(alloc),
             Running::Points(points) => points.keep_tables(alloc),
             Running::AugRoot(root) => root.keep_tables(alloc),
+            Running::SplitRoot(_) => Ok(()),
         }
     }
 
@@ -97,6 +98,7 @@ impl Running {
             Running::Point(point) => point.update_all(updates),
             Running::Points(points) => points.update_all(side, updates),
             Running::AugRoot(root) => root.update_all(updates),
+            Running::SplitRoot(root) => root.update_all(updates),
         }
     }
 
@@ -121,6 +123,7 @@ impl Running {
             (Running::Point(point), Running::Point(more)) => point.absorb(more),
             (Running::Points(points), Running::Points(more)) => points.absorb(more),
             (Running::AugRoot(root), Running::AugRoot(more)) => root.absorb(more),
+            (Running::SplitRoot(root), Running::SplitRoot(more)) => root.absorb(more),
             _ => unreachable!(),
         }
     }

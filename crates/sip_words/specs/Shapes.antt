@@ -9,6 +9,8 @@ use Rattle.sip_stream.specs.Made.{most_made}
 use Rattle.sip_lookup.specs.declared.lookup.Lookup.{Lookup}
 use Rattle.sip_lookup.specs.Lookups.{CanLook}
 use Rattle.sip_lookup.specs.Reports.{look_word}
+use Rattle.sip_above.specs.declared.large.Large.{Large}
+use Rattle.sip_above.specs.Questions.{query_of}
 use Rattle.sip_moments.specs.declared.moment.Moment.{Moment}
 use Rattle.sip_moments.specs.Manner.{moment_word}
 use Rattle.sip_moments.specs.Moments.{IsDegree}
@@ -100,3 +102,14 @@ AsksLook depth lookup word = CanLook depth lookup × (word ≡ look_word lookup)
 -- the word asks this moment, whose degree is one of those that are checked, whatever the depth
 abbrev pub AsksMoment : ℕ → Moment → List ℕ → Type 0
 AsksMoment depth m word = IsDegree m.degree × (word ≡ moment_word m)
+
+-- large entries can be asked for by this threshold
+abbrev pub IsThreshold : ℕ → Type 0
+IsThreshold t = (1 ≤ t) × (t < 2 ^ 63)
+
+abbrev pub large_word : Large → List ℕ
+large_word l = query_word (query_of l)
+
+-- the word asks for these large entries, whatever the depth
+abbrev pub AsksLarge : ℕ → Large → List ℕ → Type 0
+AsksLarge depth l word = IsThreshold l.at_least × (word ≡ large_word l)

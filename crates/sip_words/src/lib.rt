@@ -5,7 +5,8 @@
 //! says what each port of a command is opened on, under which name ([`Opening::name`]), and which
 //! end of the link first ([`PortPlan::link_order`]); [`PortPlan::sparing`] leaves out an output
 //! that would empty another file of the command. Nothing is opened here. [`read_query`],
-//! [`read_lookup`] and [`read_moment`] read one word, for a command whose words stand elsewhere.
+//! [`read_lookup`], [`read_moment`] and [`read_large`] read one word, for a command whose words stand
+//! elsewhere.
 //!
 //! # The definitions to read
 //!
@@ -13,7 +14,7 @@
 //! |---|---|
 //! | `Words` | which words spell which command, and where words are refused |
 //! | `Verbs` | the table of commands: the word of each, the shapes of its words, how much it asks |
-//! | `Shapes` | what one word may be: a stream, a depth, helpers, a query, a lookup, a moment |
+//! | `Shapes` | what one word may be: a stream, a depth, helpers, or what it asks |
 //! | `Behind` | which words are those of a command behind `--progress` |
 //! | `Plan` | which files a command opens, and their names |
 //! | `Sparing` | which outputs are left out of a plan |
@@ -28,6 +29,7 @@ mod asked;
 mod command;
 mod decimal;
 mod helper_name;
+mod large;
 mod lookup;
 mod moment;
 mod plan;
@@ -41,6 +43,7 @@ mod words;
 pub use command::{Command, read_depth, read_words, verb_of};
 pub use decimal::read_decimal;
 pub use helper_name::HelperName;
+pub use large::read_large;
 pub use lookup::read_lookup;
 pub use moment::read_moment;
 pub use plan::{LinkOrder, Opening, PortPlan, ports};

@@ -9,6 +9,7 @@ use Rattle.sip_vector.specs.Answers.{pairs}
 use Rattle.sip_vector.specs.declared.tally.Tally.{Tally}
 use Rattle.sip_verifier.specs.Reports.{line}
 use Rattle.sip_verifier.specs.runs.Askers.{IsFirst, Remaining, behind}
+use Rattle.sip_above.specs.Questions.{query_of}
 use Rattle.sip_questions.specs.Questions.{version_for}
 use Rattle.sip_questions.specs.Sittings.{ask_at, remaining_of}
 use Rattle.sip_questions.specs.declared.question.Question.{Question}
@@ -69,6 +70,8 @@ abbrev pub SaysNone : Question → Option (List TalkEvent) → Option (List Talk
     → Result (Unit {0}) AskStatus → Type 0
 SaysNone (questions.Query query) blank full result =
     SendsWhole blank full result (line query (pairs []))
+SaysNone (questions.Large large) blank full result =
+    SendsWhole blank full result (line (query_of large) (pairs []))
 SaysNone _ blank full result = ⊥
 
 -- only the report stopped

@@ -17,6 +17,7 @@ by_kind version depth stream q (questions.Lookup lookup) waits =
     lookups.waits_lawful version depth stream (as_of q lookup) waits
 by_kind version depth stream q (questions.Moment moment) waits =
     moments.waits_lawful version depth stream (as_of q moment) waits
+by_kind version depth stream q (questions.Large large) waits = waits.1
 
 pub waits_lawful : (version : Version) (depth : ℕ) (stream : List Update) (q : Posed)
     → IsWaitingOf version depth stream q q.query → IsUnfinishedOf version depth stream q q.query

@@ -1,15 +1,15 @@
 -- How far the records of a store were heard.
-use Rattle.std.specs.Prelude.{◌≡◌, ℕ, ◌<◌, ◌≤◌, Bool, false, List, [], ◌∷◌, ◌++◌, length, take}
+use Rattle.std.specs.Prelude.{◌≡◌, ℕ, ◌<◌, ◌≤◌, Bool, false, List, [], ◌++◌, length, take}
 use Rattle.std.specs.Prelude.{Option}
 use Rattle.std.specs.Prelude.{Some, Result, Ok, Err}
 use Rattle.sip_stream.specs.declared.fault.StreamFault.{StreamFault}
 use Rattle.sip_stream.specs.declared.fault.StreamFault.TheVariants as faults
-use Rattle.sip_stream.specs.declared.form.Form.{Form}
 use Rattle.sip_stream.specs.Reading.{IsAfter, Reading, Tells}
 use Rattle.sip_stream.specs.Records.{records_from}
 use Rattle.sip_vector.specs.declared.update.Update.{Update}
 use Rattle.sip_wire.specs.declared.message.Message.TheVariants as messages
 use Rattle.sip_helper.specs.Turns.{HelperState, part_of, step}
+use Rattle.sip_questions.specs.StoreFronts.{heard_of}
 
 -- A reader has taken these records off a source that had some bytes, and has others left.
 pub record Takes (old new : Reading) (had left : Option (List ℕ)) (us : List Update) : Type 0 where
@@ -54,30 +54,38 @@ pub record IsAsFar (s : HelperState) (r : Reading) : Type 0 where
   pub second : s.weights.second ≡ r.second
   pub live : s.spent ≡ false
 
--- it has heard these records, whether memory was refused or not
-abbrev pub HasHeard : HelperState → HelperState → List Update → Type 0
-HasHeard s next us =
-    (refused : Bool) × (next ≡ step s refused (messages.Updates (record { items = us })))
+-- it has heard these records, or their sizes, whether memory was refused or not
+abbrev pub HasHeard : Bool → HelperState → HelperState → List Update → Type 0
+HasHeard sizes s next us = (refused : Bool)
+    × (next ≡ step s refused (messages.Updates (record { items = heard_of sizes us })))
 
 -- a reader has taken records off a source, and a helper has heard them
-pub record HearsOn (s next : HelperState) (old new : Reading) (had left : Option (List ℕ))
-    (us : List Update) : Type 0 where
+pub record HearsOn (sizes : Bool) (s next : HelperState) (old new : Reading)
+    (had left : Option (List ℕ)) (us : List Update) : Type 0 where
   pub takes : Takes old new had left us
-  pub heard : HasHeard s next us
+  pub heard : HasHeard sizes s next us
   pub far : IsAsFar next new
 
 -- so of as many records as are told, none where there are no more
-abbrev pub HearsSome : HelperState → HelperState → Reading → Reading → Option (List ℕ)
+abbrev pub HearsSome : Bool → HelperState → HelperState → Reading → Reading → Option (List ℕ)
     → Option (List ℕ) → ℕ → Result ℕ StreamFault → Type 0
-HearsSome s next old new had left most (Ok came) =
+HearsSome sizes s next old new had left most (Ok came) =
     (us : List Update) × (length us ≡ came) × (came ≤ most)
-    × HearsOn s next old new had left us × (came ≡ 0 → IsReadOut old had left)
-HearsSome s next old new had left most (Err fault) = StopsWithin old had 1 fault
+    × HearsOn sizes s next old new had left us × (came ≡ 0 → IsReadOut old had left)
+HearsSome sizes s next old new had left most (Err fault) = StopsWithin old had 1 fault
 
 -- so of so many records, or of all where there are fewer
-abbrev pub HearsFront : HelperState → HelperState → Reading → Reading → Option (List ℕ)
+abbrev pub HearsFront : Bool → HelperState → HelperState → Reading → Reading → Option (List ℕ)
     → Option (List ℕ) → ℕ → Result Unit StreamFault → Type 0
-HearsFront s next old new had left most (Ok _) =
-    (us : List Update) × (length us ≤ most) × HearsOn s next old new had left us
+HearsFront sizes s next old new had left most (Ok _) =
+    (us : List Update) × (length us ≤ most) × HearsOn sizes s next old new had left us
     × (length us < most → IsReadOut old had left)
-HearsFront s next old new had left most (Err fault) = StopsWithin old had most fault
+HearsFront sizes s next old new had left most (Err fault) = StopsWithin old had most fault
+
+-- so many records were read, or all where there are fewer
+abbrev pub ReadsFront : Reading → Reading → Option (List ℕ) → Option (List ℕ) → ℕ
+    → Result Unit StreamFault → Type 0
+ReadsFront old new had left most (Ok _) =
+    (us : List Update) × (length us ≤ most) × Takes old new had left us
+    × (length us < most → IsReadOut old had left)
+ReadsFront old new had left most (Err fault) = Unit {0}

@@ -10,7 +10,7 @@ use Rattle.sip_sketch.specs.Joining.{unlike}
 use Rattle.sip_sketch.specs.Merging.{AddUp, AreParts, IsPart, IsUnlike, Joins, Sums}
 use Rattle.sip_sketch.specs.Sketches.{SeatValues, SketchValues}
 use Rattle.sip_sketch.specs.declared.kind.SeatKind.{SeatKind}
-use Rattle.sip_sketch.specs.declared.kind.SeatKind.TheVariants.{Entries, Sums as SumsOf, Products}
+use Rattle.sip_sketch.specs.declared.kind.SeatKind.TheVariants.{Above, Entries, Sums as SumsOf, Products}
 use Rattle.sip_sketch.specs.declared.kind.SeatKind.TheVariants.{Heavy}
 use Rattle.sip_sketch.specs.declared.status.SketchPort.TheVariants as ports
 use Rattle.sip_sketch.specs.declared.status.SketchStatus.{SketchStatus}
@@ -38,6 +38,7 @@ second_at_first Entries = 0
 second_at_first (SumsOf side) = 0
 second_at_first Products = 0
 second_at_first (Heavy side) = most_weight
+second_at_first (Above side) = 0
 
 -- a seat, with the numbers of no update where it is used
 abbrev pub cleared_seat : SeatValues → SeatValues

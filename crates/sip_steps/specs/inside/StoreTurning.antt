@@ -51,7 +51,7 @@ module _ (r : Recalls) (form : Form) (store left : Option (List ℕ)) (core : Qu
   pub record TellsHeld : Type 0 where
     pub us : List Update
     pub hears : Hears r form store left us
-    pub state : core ≡ store_heard r.number r.depth us
+    pub state : core ≡ store_heard r.number r.depth us None
     pub whole : sent ≡ held_frame r us
 
   -- it was cut short

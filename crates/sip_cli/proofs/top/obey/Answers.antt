@@ -41,7 +41,7 @@ returns-in-Serve-clause-done g c =
     (λ is. let said = c.serve.ensures.said in
     tells _ _ is c.serve.ensures.told said.0 said.1 [] (GoesOn-refl _) [] (GoesOn-refl _))
     (c.serve.ensures.fault _ _ _ _ _ _) c.serve.ensures.listed)
-    (refl, refl, refl)
+    (refl, refl)
 
 pub returns-in-Audit-clause-done : goal.returns-in-Audit-clause-done
 returns-in-Audit-clause-done g c =

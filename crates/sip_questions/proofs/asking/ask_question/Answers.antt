@@ -1,7 +1,8 @@
 -- What came of the question of each kind.
-use Rattle.std.proofs.Common.{◌≡◌, ℤ, Ok, Err, sym, ap, subst, ◌∙◌, rules, w64, to_z, of_z, FitsSigned}
+use Rattle.std.proofs.Common.{◌≡◌, ℤ, List, Ok, Err, sym, ap, subst, ◌∙◌, rules, w64, to_z, of_z, FitsSigned}
 use Rattle.std.proofs.lemmas.Int.{to_z-of_z}
 use Rattle.sip_field.specs.Elements.{m61_number}
+use Rattle.sip_vector.specs.declared.update.Entry.{Entry}
 use Rattle.sip_verifier.specs.QuerySeats.{Seated}
 use Rattle.sip_verifier.specs.runs.Askers.{Asks}
 use Rattle.sip_lookup.specs.Lookups.{Looked}
@@ -11,9 +12,9 @@ use Rattle.sip_questions.specs.declared.asker.QuestionGiven.{QuestionGiven}
 use Rattle.sip_questions.specs.declared.asker.QuestionGiven.TheVariants as givens
 use Rattle.sip_questions.specs.declared.question.Question.TheVariants as questions
 use Rattle.sip_questions.specs.declared.seat.QuestionSeat.TheVariants as seats
-use Rattle.sip_questions.specs.Questions.{Answered, asking, by_lookup, by_moment, to_lookup, to_moment}
+use Rattle.sip_questions.specs.Questions.{Answered, asking, by_large, by_lookup, by_moment, to_large, to_lookup, to_moment}
 use Rattle.sip_questions.specs.Sittings.{StandsAt, ask_at, query_given, question_at, stated}
-use Rattle.sip_questions.proofs.ByKind.{lookup_given, lookup_like, moment_given, moment_like, power_is, query_came, stopped_as}
+use Rattle.sip_questions.proofs.ByKind.{large_given, large_like, lookup_given, lookup_like, moment_given, moment_like, power_is, query_came, stopped_as}
 use Rattle.sip_questions.proofs.SeatAsks.{at_seat}
 use Rattle.sip_questions.proofs.asking.ask_question.Goals as goal
 
@@ -80,3 +81,26 @@ returns-in-Err-ask_moment-clause-asks g c = λ stream stands.
     at_seat (asking version depth stream) (g.L.Sink.talk c.args.link.now) (g.L.Sink.talk c.ask_moment.new.link) shown c.args.seat.now (seats.Moment moment point) (Err c.in-Err-ask_moment.why) c.in-Moment.is
     (stopped_as (by_moment version depth stream) (asking version depth stream) moment (questions.Moment moment) point.seat to_moment (moment_like version depth stream point.seat moment) (g.L.Sink.talk c.args.link.now) (g.L.Sink.talk c.ask_moment.new.link)
     (λ (x : ℤ) (said : ℤ). x ≡ said) (λ (x : QuestionGiven) (answer : Answered). stated shown x ≡ (questions.Moment moment, answer)) c.in-Err-ask_moment.why (c.in-Err-ask_moment.ensures.asks depth stream power))
+
+pub returns-in-Ok-ask_large-clause-asks : goal.returns-in-Ok-ask_large-clause-asks
+returns-in-Ok-ask_large-clause-asks g c = λ stream stands.
+    let version = c.args.version in
+    let depth = c.args.depth in
+    let large = c.in-Large.large in
+    let root = c.in-Large.root in
+    let stand = subst (StandsAt depth stream) c.in-Large.is stands in
+    let shown = c.ask_large.new.entries.items in
+    at_seat (asking version depth stream) (g.L.Sink.talk c.args.link.now) (g.L.Sink.talk c.ask_large.new.link) shown c.args.seat.now (seats.Large large root) (Ok (givens.Large large)) c.in-Large.is
+    (large_given version depth stream root.seat (g.L.Sink.talk c.args.link.now) (g.L.Sink.talk c.ask_large.new.link) shown large (c.in-Ok-ask_large.ensures.asks depth stream stand))
+
+pub returns-in-Err-ask_large-clause-asks : goal.returns-in-Err-ask_large-clause-asks
+returns-in-Err-ask_large-clause-asks g c = λ stream stands.
+    let version = c.args.version in
+    let depth = c.args.depth in
+    let large = c.in-Large.large in
+    let root = c.in-Large.root in
+    let stand = subst (StandsAt depth stream) c.in-Large.is stands in
+    let shown = c.ask_large.new.entries.items in
+    at_seat (asking version depth stream) (g.L.Sink.talk c.args.link.now) (g.L.Sink.talk c.ask_large.new.link) shown c.args.seat.now (seats.Large large root) (Err c.in-Err-ask_large.why) c.in-Large.is
+    (stopped_as (by_large version depth stream) (asking version depth stream) large (questions.Large large) root.seat to_large (large_like version depth stream root.seat large) (g.L.Sink.talk c.args.link.now) (g.L.Sink.talk c.ask_large.new.link)
+    (λ (x : Unit {0}) (answer : List Entry). shown ≡ answer) (λ (x : QuestionGiven) (answer : Answered). stated shown x ≡ (questions.Large large, answer)) c.in-Err-ask_large.why (c.in-Err-ask_large.ensures.asks depth stream stand))

@@ -9,7 +9,7 @@ use Rattle.sip_questions.proofs.store_hearing.hear_front.Goals as goal
 
 pub loop-left-init : goal.loop-left-init
 loop-left-init g c = record {
-  heard = ([], omega arith, hears_none c.args.stream.now c.args.reader.now _ c.requires.far c.requires.behind.ready);
+  heard = ([], omega arith, hears_none c.args.sizes c.args.stream.now c.args.reader.now _ c.requires.far c.requires.behind.ready);
   unread = c.requires.behind;
   room = c.requires.room;
   told = λ is. is;
@@ -34,7 +34,7 @@ returns-then-came-eq0-clause-hears g c =
     let (vs, came, few, more, out) = c.in_ok-came.ensures.hears in (
       us ++ vs,
       omega (arith, count, came, c.if-came-eq0.true, length-append us vs),
-      hears_more _ _ _ _ _ _ _ _ _ us vs hears more,
+      hears_more _ _ _ _ _ _ _ _ _ _ us vs hears more,
       λ less. out_more _ _ _ _ _ us hears.takes (out c.if-came-eq0.true),
     )
 
@@ -47,7 +47,7 @@ loop-left-preserved g c =
     let below : c.min-most.result ≤ c.loop-left.left = omega (arith, c.min-most.ensures) in
     let size = length-take-le c.min-most.result c.loop-left.block within in
     record {
-      heard = (us ++ vs, omega (arith, count, came, few, below, size, length-append us vs), hears_more _ _ _ _ _ _ _ _ _ us vs hears more);
+      heard = (us ++ vs, omega (arith, count, came, few, below, size, length-append us vs), hears_more _ _ _ _ _ _ _ _ _ _ us vs hears more);
       unread = c.loop-left.invariant.unread;
       room = omega (arith, len, c.min-most.ensures, c.loop-left-test.true, c.loop-left.invariant.room, length-append c.hear_some.new.block (drop c.min-most.result c.loop-left.block), length-drop c.min-most.result c.loop-left.block);
       told = λ is. c.hear_some.ensures.told (c.loop-left.invariant.told is);

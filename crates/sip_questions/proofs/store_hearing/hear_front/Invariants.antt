@@ -8,7 +8,7 @@ use Rattle.sip_questions.proofs.store_hearing.hear_front.Given as goal
 
 abbrev pub invariant-loop-left : goal.invariant-loop-left
 invariant-loop-left g l = record {
-  heard : (us : List Update) × (length us + l.left ≡ l.fn.count) × HearsOn l.fn.stream l.stream l.fn.reader l.reader (g.A.Source.left l.fn.first) (g.A.Source.left l.first) us;
+  heard : (us : List Update) × (length us + l.left ≡ l.fn.count) × HearsOn l.fn.sizes l.fn.stream l.stream l.fn.reader l.reader (g.A.Source.left l.fn.first) (g.A.Source.left l.first) us;
   unread : IsAfter l.fn.reader [];
   room : 0 < length l.block;
   told : IsSome (g.A.Source.left l.fn.first) → IsSome (g.A.Source.left l.first);

@@ -39,3 +39,10 @@ loop-preserved c =
       blocks_on d xs x c.loop.invariant.2 c.in_ok-seat.ensures.block,
       subst (λ t. Passes c.args.cursor.now c.take_seat.new.cursor (seats_fields d number n) left t) (numbers_on xs x) on,
     )
+
+-- memory was refused
+pub returns-in_err-push-clause-takes : goal.returns-in_err-push-clause-takes
+returns-in_err-push-clause-takes c =
+    let r = c.from_residual-in_err-push in
+    let p = err_from_is_err_and r.result r.ensures.1 in
+    rw (p.1, p.2) (record { faults = λ values. tt })

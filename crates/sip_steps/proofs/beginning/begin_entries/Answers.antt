@@ -22,5 +22,5 @@ returns c = record {
       let room : most_answer c.args.lo c.args.hi ≤ length places = omega (arith, c.in_ok-places.ensures, c.most_pairs.ensures) in
       let asked = sub_asked c.args.version m61_modulus root.value c.args.lo c.args.hi root.seat in
       let talk = c.in_ok-asking.ensures.asked asked refl (c.start-check.ensures.stands c.args.version places room) in
-      (asked, subst (λ (b : List ℕ). IsAsked (sub_protocol asked) (SubStands asked) phase_of message_of (message_of c.args.opening) b [] c.in_ok-asking.asking) c.start-check.ensures.block talk, kind);
+      (asked, record { asks = c.in_ok-asking.ensures.request; talk = subst (λ (b : List ℕ). IsAsked (sub_protocol asked) (SubStands asked) phase_of message_of (message_of c.args.opening) b [] c.in_ok-asking.asking) c.start-check.ensures.block talk }, kind);
 }

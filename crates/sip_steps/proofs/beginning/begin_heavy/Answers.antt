@@ -1,6 +1,6 @@
 -- The places and the space have room for the answer, and the events are a talk by the protocol of
 -- the augmented root.
-use Rattle.std.proofs.Common.{◌≤◌, ◌*◌, ◌/◌, [], List, ℕ, length, refl, subst, rules}
+use Rattle.std.proofs.Common.{◌≤◌, ◌*◌, ◌/◌, [], List, ℕ, length, inl, refl, subst, rules}
 use Rattle.sip_field.specs.Moduli.{m61_modulus}
 use Rattle.sip_heavy.specs.Asking.{HeavyStands, phase_of}
 use Rattle.sip_heavy.specs.Protocol.{count_of, heavy_asked, heavy_protocol}
@@ -23,5 +23,5 @@ returns c = record {
       let room : 2 * (count_of root.total / c.args.at_least) ≤ length places = search rules in
       let asked = heavy_asked c.args.version m61_modulus root.hash root.total (length root.seat) c.args.at_least in
       let talk = c.in_ok-asking.ensures.asked asked refl (c.start-check.ensures.stands c.args.version places room) in
-      (asked, subst (λ (b : List ℕ). IsAsked (heavy_protocol asked) (HeavyStands asked) phase_of message_of (message_of c.args.opening) b [] c.in_ok-asking.asking) c.start-check.ensures.block talk, kind);
+      (asked, record { asks = c.in_ok-asking.ensures.request; talk = subst (λ (b : List ℕ). IsAsked (heavy_protocol asked) (HeavyStands asked) phase_of message_of (message_of c.args.opening) b [] c.in_ok-asking.asking) c.start-check.ensures.block talk }, inl kind);
 }

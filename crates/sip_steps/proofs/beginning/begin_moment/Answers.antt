@@ -23,5 +23,5 @@ returns c = record {
       let power = (m61_number c.args.extension ^ moment.degree) % m61_modulus in
       let asked = moment_asked c.args.version m61_modulus moment.degree power in
       let talk = c.in_ok-asking.ensures.asked asked refl (c.start-check.ensures.stands c.args.version _) in
-      (moment, power, subst (λ (b : List ℕ). IsAsked (moment_protocol asked) (MomentStands asked) phase_of message_of (ask_of moment) b [] c.in_ok-asking.asking) c.start-check.ensures.block talk, kind);
+      (moment, power, record { asks = c.in_ok-asking.ensures.request; talk = subst (λ (b : List ℕ). IsAsked (moment_protocol asked) (MomentStands asked) phase_of message_of (ask_of moment) b [] c.in_ok-asking.asking) c.start-check.ensures.block talk }, kind);
 }

@@ -16,5 +16,5 @@ returns c = record {
   posed = λ depth running kind.
       let asked = sum_asked c.args.version m61_modulus (m61_number c.args.product) in
       let talk = c.in_ok-asking.ensures.asked asked refl (c.start-check.ensures.stands c.args.version _) in
-      (asked, subst (λ (b : List ℕ). IsAsked (sum_protocol asked) (SumStands asked) phase_of message_of (message_of c.args.opening) b [] c.in_ok-asking.asking) c.start-check.ensures.block talk, kind);
+      (asked, record { asks = c.in_ok-asking.ensures.request; talk = subst (λ (b : List ℕ). IsAsked (sum_protocol asked) (SumStands asked) phase_of message_of (message_of c.args.opening) b [] c.in_ok-asking.asking) c.start-check.ensures.block talk }, kind);
 }

@@ -12,4 +12,4 @@ returns-in-Some-clause-came g c = λ stream stands.
 pub returns-in-None-clause-came : goal.returns-in-None-clause-came
 returns-in-None-clause-came g c = λ stream stands.
     let a = c.args.self.now.asker in
-    rw c.in-None.is (lined_came (asking a.version a.depth stream) c.args.self.now.sketch c.args.number c.args.question.now _ _ _ c.say_none.result (λ query. refl) c.say_none.ensures.says c.say_none.ensures.stops)
+    rw c.in-None.is (lined_came (asking a.version a.depth stream) c.args.self.now.sketch c.args.number c.args.question.now _ _ _ c.say_none.result (λ query. refl) (λ large. refl) c.say_none.ensures.says c.say_none.ensures.stops)

@@ -1,7 +1,6 @@
 -- The next question takes a seat, or none.
 use Rattle.std.proofs.Common.{◌≡◌, ℕ, List, [], ◌∷◌, sym, ap, subst, ◌∙◌, add-one}
 use Rattle.std.specs.Prelude.{vec_capacity}
-use Rattle.sip_questions.specs.declared.asker.QuestionGiven.TheVariants as givens
 use Rattle.sip_ask_steps.specs.Steps.{IsKept, IsPast, IsToStore}
 use Rattle.sip_ask_steps.specs.Told.{IsTold}
 use Rattle.sip_ask_steps.specs.declared.turn.Turn.{Turn}
@@ -21,12 +20,12 @@ pub returns-in-Idle-clause-done : goal.returns-in-Idle-clause-done
 returns-in-Idle-clause-done c p events t =
     let m = c.args.self.now in
     let left = c.first_of.new.left.items in
-    let query = c.in-Idle.query in
+    let given = c.in-Idle.given in
     let room = vec_capacity m.file in
-    let order : m.left.items ≡ turns.Idle query ∷ left = c.in-Some.ensures.order ∙ ap (λ (t : Turn). t ∷ left) c.in-Idle.is in
-    let kept = kept_on p m.sketch m.sketch m.number (turns.Idle query) left m.version room room (subst (λ (l : List Turn). IsKept p m.sketch m.number l m.version room) order t.0) t.0.enough in
-    let told = turned_idle p m.sketch m.number left events query (subst (λ (l : List Turn). IsPast p m.sketch m.number l events) order t.1) in
-    let both = subst (λ (n : ℕ). IsKept p m.sketch n left m.version room × (IsTold p events [] n (givens.Pairs query) × IsPast p m.sketch n left events)) (sym (add-one m.number)) (kept, told) in
+    let order : m.left.items ≡ turns.Idle given ∷ left = c.in-Some.ensures.order ∙ ap (λ (t : Turn). t ∷ left) c.in-Idle.is in
+    let kept = kept_on p m.sketch m.sketch m.number (turns.Idle given) left m.version room room (subst (λ (l : List Turn). IsKept p m.sketch m.number l m.version room) order t.0) t.0.enough in
+    let told = turned_idle p m.sketch m.number left events given (subst (λ (l : List Turn). IsPast p m.sketch m.number l events) order t.1) in
+    let both = subst (λ (n : ℕ). IsKept p m.sketch n left m.version room × (IsTold p events [] n given × IsPast p m.sketch n left events)) (sym (add-one m.number)) (kept, told) in
     rw c.go-in-Idle.ensures (record { kept = both.0; at = both.1 })
 
 pub returns-in-Takes-clause-done : goal.returns-in-Takes-clause-done

@@ -8,8 +8,8 @@ pub returns-clause-first : goal.returns-clause-first
 returns-clause-first c = first_below c.begun-running.result
 
 pub returns-clause-second : goal.returns-clause-second
-returns-clause-second c = begun_told c.args.kind c.begun-running.result c.begun-running.ensures.keeps c.begun-running.ensures.starts
+returns-clause-second c = begun_told c.args.kind c.begun-running.result (c.begun-running.ensures.keeps, c.begun-running.ensures.unweighed) c.begun-running.ensures.starts
 
 pub returns-clause-stands : goal.returns-clause-stands
 returns-clause-stands c = λ depth size.
-    stands_from c.args.kind false c.begun-running.result depth [] c.begun-running.ensures.keeps (c.begun-running.ensures.runs depth size)
+    stands_from c.args.kind false c.begun-running.result depth [] (c.begun-running.ensures.keeps, c.begun-running.ensures.unweighed) (c.begun-running.ensures.runs depth size)

@@ -16,12 +16,11 @@ returns-then-not-self c = record {
       let r = c.self.inside.running in
       let r' = c.raise.new.running in
       let kept = c.self.invariant in
-      let kept' = c.raise.ensures.keeps (query_of kind) ∙ kept in
       let sided = sym c.side-side.ensures in
       let own = own_is kind c.side-side.result updates c.args.firsts.now c.args.seconds.now sided firsts seconds in
       let after = subst (λ (l : List Update). IsTotalAfter (numbers_of r) l (numbers_of r')) own c.raise.ensures.total in
       let unused : c.self.inside.is_used ≡ false = c.if-not-self.true in
-      let one = raised_seen kind r r' updates kept kept' c.raise.ensures.block after
+      let one = raised_seen kind r r' updates kept (c.raise.ensures.keeps (query_of kind) ∙ kept.0, c.raise.ensures.unweighed) c.raise.ensures.block after
       (λ depth stream runs. c.raise.ensures.runs depth stream updates kind sided firsts seconds runs) in
       let all = subst (λ (b : Bool). IsRaised updates (seen kind b r) (seen kind b r')) (sym unused) one in
       subst (λ (s : SeatValues). IsRaised updates s (seen kind c.self.inside.is_used r')) c.self.view_is all;

@@ -1,4 +1,4 @@
--- Nothing was said of a query, a moment or a lookup.
+-- Nothing was said of a query, a moment, a lookup or large entries.
 use Rattle.std.proofs.Common.{◌≤◌, [], List, ℕ, length, sym, ap, subst, ◌∙◌, arith}
 use Rattle.sip_verifier.specs.QuerySeats.{root_is}
 use Rattle.sip_verifier.specs.Running.{block_of, numbers_of}
@@ -19,6 +19,12 @@ returns-in_ok-posing-in-Moment-default-clause-asked c = record { opening = openi
 
 pub returns-in_ok-posing-in-Moment-default-clause-begun : goal.returns-in_ok-posing-in-Moment-default-clause-begun
 returns-in_ok-posing-in-Moment-default-clause-begun c = (about c.args.version c.args.depth c.args.question c.args.running, [], returns-in_ok-posing-in-Moment-default-clause-asked c)
+
+pub returns-in_ok-posing-in-Large-default-clause-asked : goal.returns-in_ok-posing-in-Large-default-clause-asked
+returns-in_ok-posing-in-Large-default-clause-asked c = record { opening = openings.Large c.in-Large-default.large; is = c.in-Large-default.is-0; talk = c.in_ok-posing-in-Large-default.ensures.posed }
+
+pub returns-in_ok-posing-in-Large-default-clause-begun : goal.returns-in_ok-posing-in-Large-default-clause-begun
+returns-in_ok-posing-in-Large-default-clause-begun c = (about c.args.version c.args.depth c.args.question c.args.running, [], returns-in_ok-posing-in-Large-default-clause-asked c)
 
 pub returns-in_ok-looking-in-Lookup-Root-clause-asked : goal.returns-in_ok-looking-in-Lookup-Root-clause-asked
 returns-in_ok-looking-in-Lookup-Root-clause-asked c =

@@ -2,7 +2,7 @@
 use Rattle.std.proofs.Common.{subst}
 use Rattle.sip_verifier.specs.declared.running.Running.{Running}
 use Rattle.sip_verifier.specs.Running.{RunsFor}
-use Rattle.sip_verifier.proofs.Seating.{root_further, point_further, points_further, aug_root_further}
+use Rattle.sip_verifier.proofs.Seating.{root_further, point_further, points_further, aug_root_further, split_root_further}
 use Rattle.sip_verifier.proofs.running.Running.update_all.Goals as goal
 
 pub returns-in-Root-clause-runs : goal.returns-in-Root-clause-runs
@@ -24,3 +24,8 @@ pub returns-in-AugRoot-clause-runs : goal.returns-in-AugRoot-clause-runs
 returns-in-AugRoot-clause-runs c = λ depth stream query concerned stands.
     let own = subst (λ (r : Running). RunsFor depth stream query r) c.in-AugRoot.is stands in
     record { runs = aug_root_further depth stream c.args.updates.now _ c.args.side query _ _ _ _ _ c.requires.sides concerned c.update_all-in-AugRoot.ensures.stands own.runs }
+
+pub returns-in-SplitRoot-clause-runs : goal.returns-in-SplitRoot-clause-runs
+returns-in-SplitRoot-clause-runs c = λ depth stream query concerned stands.
+    let own = subst (λ (r : Running). RunsFor depth stream query r) c.in-SplitRoot.is stands in
+    record { runs = split_root_further depth stream c.args.updates.now _ c.args.side query _ _ _ _ _ c.requires.sides concerned c.update_all-in-SplitRoot.ensures.stands own.runs }

@@ -1,0 +1,5 @@
+pub mod Questions
+pub mod Manner
+pub mod Serving
+pub mod UnderWay
+pub mod inside

@@ -1,0 +1,2 @@
+-- For the proofs of private functions alone.
+pub mod Judging
