@@ -1,5 +1,6 @@
 // Words of the command that asks a sketch: what they ask, what they open, and which is refused.
 
+use sip_above::Large;
 use sip_command_tests::case::Case;
 use sip_keeping::{ask_ports, asks_sketch, file_opening, read_ask_words, sketch_verb};
 use sip_lookup::Lookup;
@@ -58,7 +59,12 @@ const REFUSALS: &[Refusal<'static>] = &[
     ("ask|k|f|t|share:0:3:2", Some(4)),
     ("ask|k|f|t|share:1:1000000:1000000", None),
     ("ask|k|f|t|share:1:1:1000001", Some(4)),
-    ("ask|k|f|t|above:0:1", Some(4)),
+    ("ask|k|f|t|above:0:1|above:1:2", None),
+    ("ask|k|f|t|above:0:0", Some(4)),
+    ("ask|k|f|t|above:1:9223372036854775807", None),
+    ("ask|k|f|t|above:1:9223372036854775808", Some(4)),
+    ("ask|k|f|t|above:2:1", Some(4)),
+    ("ask|k|f|t|above:0:01", Some(4)),
     ("ask|k|f|t|index:281474976710655", None),
     ("ask|k|f|t|index:281474976710656", Some(4)),
     ("ask|k|f|t|pred:18446744073709551616", Some(4)),
@@ -125,6 +131,10 @@ const ASKED: &[Question] = &[
         side: Side::Second,
         degree: 3,
     }),
+    Question::Large(Large {
+        side: Side::Second,
+        at_least: 9,
+    }),
 ];
 
 fn asks(words: &Words) -> bool {
@@ -137,7 +147,7 @@ fn asks(words: &Words) -> bool {
 #[test]
 fn words_of_an_ask_say_what_is_asked(rt: HostRuntime) -> Result<(), Fail> {
     let name = "ask|k|f|t|sub:1:2|range:1:3:4|f2:0|inner|heavy:1:5|share:0:1:10|index:6|pred:7|\
-succ:8|moment:1:3";
+succ:8|moment:1:3|above:1:9";
     Case { name, number: 0 }
         .holds(asks(&words_between(rt.alloc(), name, '|')?))
         .expect(&rt, "a case");
